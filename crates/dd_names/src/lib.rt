@@ -1,13 +1,16 @@
-// A library with one function.
+//! Names as the dictionary has them, and the small types that all crates share: a text, a list and a copy that may lack memory.
 #![tactic(auto)]
 
-ghost use Rattle.std.specs.Prelude.{◌≡◌};
-ghost use Rattle.dd_names.specs.Echo.{echo_of};
+mod list;
+mod name;
+mod reserved;
+#[cfg(test)]
+mod tests;
+mod text;
+mod try_copy;
 
-// The `ensures` clause is the contract: what `echo` returns is `echo_of` of its argument, a definition
-// in `specs/Echo.antt`, which a caller's clause can cite too.
-pub fn echo(x: usize) -> usize
-    ensures { result ≡ echo_of x }
-{
-    x
-}
+pub use list::List;
+pub use name::{Name, NameFault};
+pub use reserved::{is_reserved, is_system_schema};
+pub use text::Text;
+pub use try_copy::TryCopy;

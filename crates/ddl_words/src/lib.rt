@@ -1,13 +1,12 @@
-// A library with one function.
+//! Statements, errors and listings as values.
 #![tactic(auto)]
 
-ghost use Rattle.std.specs.Prelude.{◌≡◌};
-ghost use Rattle.ddl_words.specs.Echo.{echo_of};
+mod errors;
+mod listing;
+mod statement;
+#[cfg(test)]
+mod tests;
 
-// The `ensures` clause is the contract: what `echo` returns is `echo_of` of its argument, a definition
-// in `specs/Echo.antt`, which a caller's clause can cite too.
-pub fn echo(x: usize) -> usize
-    ensures { result ≡ echo_of x }
-{
-    x
-}
+pub use errors::SqlError;
+pub use listing::{Cell, ListRow, Listing};
+pub use statement::Statement;
