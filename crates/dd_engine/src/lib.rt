@@ -1,13 +1,12 @@
-// A library with one function.
+//! A dictionary that answers statements one after another over a catalog in memory, and the histories that it may make.
 #![tactic(auto)]
 
-ghost use Rattle.std.specs.Prelude.{◌≡◌};
-ghost use Rattle.dd_engine.specs.Echo.{echo_of};
+mod answer_to;
+mod history;
+mod name_set;
+mod plain_engine;
+#[cfg(test)]
+mod tests;
 
-// The `ensures` clause is the contract: what `echo` returns is `echo_of` of its argument, a definition
-// in `specs/Echo.antt`, which a caller's clause can cite too.
-pub fn echo(x: usize) -> usize
-    ensures { result ≡ echo_of x }
-{
-    x
-}
+pub use history::{Answer, Entry, History};
+pub use plain_engine::PlainEngine;

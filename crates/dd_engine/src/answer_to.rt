@@ -1,0 +1,89 @@
+// What a statement is answered over a set of schemas, and what it makes of them.
+ghost use Rattle.std.specs.Prelude.{◌≡◌, ◌∷◌, [], IfOk, map, codes};
+ghost use Rattle.std.specs.FinMap as finite_map;
+ghost use Rattle.dd_engine.specs.Catalog.{new_session, of_schemas};
+ghost use Rattle.dd_engine.specs.Outcome.{outcome, row_of, schema_exists};
+ghost use Rattle.dd_engine.specs.History.{Answers, next_catalog};
+
+use crate::history::Answer;
+use crate::name_set::NameSet;
+use dd_names::{List, Name, Text, TryCopy, is_system_schema};
+use ddl_words::{Cell, ListRow, Listing, SqlError, Statement};
+use std::alloc::{AllocError, Global};
+
+/// Answers a statement, and leaves the schemas as the answer says.
+pub fn answer_to(alloc: Global, schemas: &mut NameSet, statement: &Statement) -> Answer
+    ensures answers { Answers (outcome (of_schemas schemas.old) new_session statement.now) result }
+    ensures next { next_catalog (outcome (of_schemas schemas.old) new_session statement.now) result (of_schemas schemas.old) ≡ of_schemas schemas.new }
+{
+    match statement {
+        Statement::CreateDatabase {
+            if_not_exists,
+            name,
+        } => create_database(alloc, schemas, *if_not_exists, name),
+        Statement::ShowDatabases => show_databases(alloc, schemas),
+    }
+}
+
+fn create_database(alloc: Global, schemas: &mut NameSet, if_not_exists: bool, name: &Name) -> Answer
+    ensures answers { Answers (outcome (of_schemas schemas.old) new_session (Statement.CreateDatabase if_not_exists name.now)) result }
+    ensures next { next_catalog (outcome (of_schemas schemas.old) new_session (Statement.CreateDatabase if_not_exists name.now)) result (of_schemas schemas.old) ≡ of_schemas schemas.new }
+{
+    if schemas.contains(name) || is_system_schema(name.as_str()) {
+        if if_not_exists {
+            return Answer::Done;
+        }
+        return match schema_exists(alloc, name) {
+            Ok(error) => Answer::Error(error),
+            Err(_) => Answer::Memory,
+        };
+    }
+    let Ok(name) = name.copy() else {
+        return Answer::Memory;
+    };
+    match schemas.insert(name) {
+        Ok(()) => Answer::Done,
+        Err(_) => Answer::Memory,
+    }
+}
+
+fn schema_exists(alloc: Global, name: &Name) -> Result<SqlError, AllocError>
+    ensures { IfOk result (λ error. error ≡ schema_exists name.now) }
+{
+    Ok(SqlError::of(1007, one(alloc, name.to_text()?)?))
+}
+
+fn show_databases(alloc: Global, schemas: &NameSet) -> Answer
+    ensures { Answers (outcome (of_schemas schemas.now) new_session Statement.ShowDatabases) result }
+{
+    match databases(alloc, schemas) {
+        Ok(listing) => Answer::Rows(listing),
+        Err(_) => Answer::Memory,
+    }
+}
+
+fn databases(alloc: Global, schemas: &NameSet) -> Result<Listing, AllocError>
+    ensures header { IfOk result (λ listing. listing.header ≡ codes "Database" ∷ []) }
+    ensures rows { IfOk result (λ listing. listing.rows ≡ map row_of (finite_map.keys schemas.now)) }
+{
+    let header = one(alloc, Text::of(alloc, "Database")?)?;
+    let mut rows = List::new(alloc);
+    'names: for name in schemas.iter() {
+        rows.push(row_of(alloc, name)?)?;
+    }
+    Ok(Listing { header, rows })
+}
+
+fn row_of(alloc: Global, name: &Name) -> Result<ListRow, AllocError>
+    ensures { IfOk result (λ row. row ≡ row_of name.now) }
+{
+    one(alloc, Cell::Value(name.to_text()?))
+}
+
+fn one<T: Drop>(alloc: Global, item: T) -> Result<List<T>, AllocError>
+    ensures { IfOk result (λ list. list ≡ item ∷ []) }
+{
+    let mut list = List::new(alloc);
+    list.push(item)?;
+    Ok(list)
+}
