@@ -34,8 +34,10 @@ fn statements_are_answered_in_order(rt: HostRuntime) -> Result<(), Fail> {
         ("Sys", true),
         ("sys", false),
     ] {
+        assert!(rt; engine.history().len() < 8);
         assert!(rt; engine.answer(create(alloc, if_not_exists, name)?).is_ok());
     }
+    assert!(rt; engine.history().len() < 8);
     assert!(rt; engine.answer(Statement::ShowDatabases).is_ok());
     assert_eq!(rt; engine.history().len(), 8);
     let history = engine.take();

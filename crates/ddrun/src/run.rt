@@ -1,0 +1,144 @@
+// The whole run: reads, answers, prints.
+ghost use Rattle.std.specs.Prelude.{◌≡◌, ◌↔◌, ◌+◌, ◌≤◌, ℕ, [], None, IfErr, IfOk, OnOk, length, map, take};
+ghost use Rattle.std.specs.Io.KnownBytes.{IsAtEnd};
+ghost use Rattle.edge_io.specs.Causes.{Rose};
+ghost use Rattle.edge_io.specs.Content.{ConsumesAtMost};
+ghost use Rattle.dd_engine.specs.Catalog.{empty_catalog};
+ghost use Rattle.dd_engine.specs.Engine.{ArePlainFrom};
+ghost use Rattle.dd_engine.specs.History.{LegalHistory};
+ghost use Rattle.ddrun.specs.Headline.{AllAnswered, AreScripts, FirstAnswered, Headline, IsDone, IsGood, IsHistoryOf};
+ghost use Rattle.ddrun.specs.Ending.{IsFew, IsRun, IsUnread, statement_of_entry, status_of};
+ghost use Rattle.ddrun.specs.Words.{command_of};
+
+use crate::command::{Command, Usage, read_words};
+use crate::print::{PrintFault, print_history};
+use crate::read::{MAX_INPUT, MAX_STATEMENTS, scripts};
+use crate::script::Script;
+use crate::status::{Ended, Status};
+use dd_engine::{History, PlainEngine};
+use dd_names::{List, TryCopy};
+use ddl_words::Statement;
+use edge_io::{ReadFault, Sink, Source, read_up_to};
+use std::alloc::{AllocError, Global};
+
+/// Does what the words of a command line ask for: reads a script from the source, answers its statements, and prints
+/// the answers to the sink.
+pub fn ddrun<S: Source, K: Sink>(
+    alloc: Global,
+    words: &[&str],
+    source: &mut S,
+    sink: &mut K,
+) -> Ended
+    ensures headline { Headline result.status (S.left source.old) result.history (K.held sink.old) (K.held sink.new) }
+
+    // Each status has its cause.
+    ensures usage { (result.status ≡ Status.Usage) ↔ (command_of (map (λ word. word.now) words.now) ≡ None) }
+    ensures read_fault { result.status ≡ Status.ReadFault → Rose (S.faults source.old) (S.faults source.new) }
+    ensures write_fault { result.status ≡ Status.WriteFault → Rose (K.faults sink.old) (K.faults sink.new) }
+    ensures read { result.status ≡ Status.Ok → IsAtEnd (S.left source.new) }
+    ensures bound { ConsumesAtMost (MAX_INPUT + 1) (S.left source.old) (S.left source.new) }
+
+    // Where the words and the input are good and nothing fails, all is done unless there is no memory.
+    ensures complete { ¬ (command_of (map (λ word. word.now) words.now) ≡ None) → IsGood (S.left source.old)
+        → ¬ (Rose (S.faults source.old) (S.faults source.new)) → ¬ (Rose (K.faults sink.old) (K.faults sink.new)) → IsDone result.status }
+{
+    match read_words(words) {
+        Ok(Command::Run) => match read_scripts(alloc, source) {
+            Ok(scripts) => run_scripts(alloc, scripts.as_slice(), sink),
+            Err(status) => nothing_done(alloc, status),
+        },
+        Err(Usage) => nothing_done(alloc, Status::Usage),
+    }
+}
+
+fn nothing_done(alloc: Global, status: Status) -> Ended
+    ensures status { result.status ≡ status }
+    ensures history { result.history ≡ [] }
+{
+    Ended {
+        status,
+        history: List::new(alloc),
+    }
+}
+
+// Reads the source to its end, or one byte past the greatest input.
+fn read_scripts<S: Source>(alloc: Global, source: &mut S) -> Result<List<Script>, Status>
+    ensures sessions { IfOk result (λ sessions. AreScripts (S.left source.old) sessions) }
+    ensures few { IfOk result (λ sessions. IsFew sessions) }
+    ensures ended { OnOk result (IsAtEnd (S.left source.new)) }
+    ensures bound { ConsumesAtMost (MAX_INPUT + 1) (S.left source.old) (S.left source.new) }
+    ensures err { IfErr result (λ status. IsUnread status (S.left source.old) (S.faults source.old) (S.faults source.new)) }
+{
+    let bytes = match read_up_to(alloc, source, MAX_INPUT) {
+        Ok(bytes) => bytes,
+        Err(ReadFault::Failed) => return Err(Status::ReadFault),
+        Err(ReadFault::Memory) => return Err(Status::Memory),
+    };
+    match scripts(alloc, &bytes) {
+        Ok(Some(found)) => Ok(found),
+        Ok(None) => Err(Status::NotBuilt),
+        Err(_) => Err(Status::Memory),
+    }
+}
+
+// Answers the sessions, and prints the answers where every statement has one.
+fn run_scripts<K: Sink>(alloc: Global, scripts: &[Script], sink: &mut K) -> Ended
+    requires { IsFew scripts.now }
+    ensures { IsRun result.status scripts.now result.history (K.held sink.old) (K.held sink.new) (K.faults sink.old) (K.faults sink.new) }
+{
+    let (history, answered) = answer_scripts(alloc, scripts);
+    if answered.is_err() {
+        return Ended {
+            status: Status::Memory,
+            history,
+        };
+    }
+    let printed = print_history(alloc, scripts, history.as_slice(), sink);
+    Ended {
+        status: status_of(printed),
+        history,
+    }
+}
+
+fn status_of(printed: Result<(), PrintFault>) -> Status
+    ensures { result ≡ status_of printed }
+{
+    match printed {
+        Ok(()) => Status::Ok,
+        Err(PrintFault::WriteFault) => Status::WriteFault,
+        Err(PrintFault::Memory) => Status::Memory,
+    }
+}
+
+fn answer_scripts(alloc: Global, scripts: &[Script]) -> (History, Result<(), AllocError>)
+    requires { IsFew scripts.now }
+    ensures history { IsHistoryOf scripts.now result.0 }
+    ensures all { OnOk result.1 (AllAnswered scripts.now result.0) }
+    ensures first { FirstAnswered scripts.now result.0 }
+{
+    match scripts {
+        [] => (List::new(alloc), Ok(())),
+        [script] => answer_all(alloc, script.statements.as_slice()),
+        _ => unreachable!(),
+    }
+}
+
+// Answers the statements one after another until there is no memory.
+fn answer_all(alloc: Global, statements: &[Statement]) -> (History, Result<(), AllocError>)
+    requires { length statements.now ≤ MAX_STATEMENTS }
+    ensures legal { LegalHistory empty_catalog result.0 }
+    ensures plain { ArePlainFrom 0 result.0 }
+    ensures all { OnOk result.1 (map statement_of_entry result.0 ≡ statements.now) }
+    ensures first { (n : ℕ) × (map statement_of_entry result.0 ≡ take n statements.now) }
+{
+    let mut engine = PlainEngine::new(alloc);
+    'statements: for statement in statements {
+        let Ok(statement) = statement.copy() else {
+            return (engine.take(), Err(AllocError));
+        };
+        if engine.answer(statement).is_err() {
+            return (engine.take(), Err(AllocError));
+        }
+    }
+    (engine.take(), Ok(()))
+}
