@@ -16,7 +16,6 @@ bytes (b ∷ bs) good = elim (is_name_byte b) as (λ v. is_name_byte b ≡ v →
   | false ↦ λ here none. absurd (cc)
 ] refl good
 
-
 pub fold-IsName : (bs : List ℕ) → IsName bs → IsName (fold bs)
 fold-IsName bs name = record {
   some = omega (arith, name.some, length-map bs to_ascii_lowercase);
