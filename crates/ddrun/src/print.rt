@@ -1,5 +1,5 @@
 // Prints a history piece by piece.
-ghost use Rattle.std.specs.Prelude.{◌≡◌, ◌<◌, ◌^◌, ◌∷◌, [], IfOk, length};
+ghost use Rattle.std.specs.Prelude.{◌≡◌, ◌<◌, ◌^◌, ◌∷◌, [], IfOk, IsOkUnless, length};
 ghost use Rattle.ddrun.specs.Writes.{Writes};
 ghost use Rattle.ddrun.specs.Printed.{answers_text, printed, session_line, session_text};
 
@@ -107,7 +107,8 @@ fn session_line(alloc: Global, name: &str) -> Result<Vec<u8>, AllocError>
 }
 
 fn print_text<K: Sink>(sink: &mut K, text: &[u8]) -> Result<(), PrintFault>
-    ensures { Writes (K.held sink.old) (K.held sink.new) (K.faults sink.old) (K.faults sink.new) text.now result }
+    ensures writes { Writes (K.held sink.old) (K.held sink.new) (K.faults sink.old) (K.faults sink.new) text.now result }
+    ensures only { IsOkUnless result PrintFault.WriteFault }
 {
     match write_all(sink, text) {
         Ok(()) => Ok(()),
