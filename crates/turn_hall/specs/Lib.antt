@@ -1,0 +1,5 @@
+pub mod Moves
+pub mod Numbers
+pub mod Passes
+pub mod Prefixes
+pub mod Rule

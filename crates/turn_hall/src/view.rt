@@ -1,0 +1,26 @@
+//! What the slot of a hall has, and what a seat knows.
+use std::collections::LinkedList;
+
+/// The slot: the value, or how many entries it had as it was taken out.
+pub type Place<T> = Result<T, u64>;
+
+/// What a seat does. No value of it is made.
+pub enum Stage<T> {
+    Idle,
+    /// It has this ticket.
+    Waiting(u64),
+    /// It has this ticket, and the value is out with it. The value is as it was taken out.
+    Out(u64, T),
+}
+
+/// What a seat knows. No value of it is made.
+pub struct View<T, E, Q> {
+    pub stage: Stage<T>,
+    /// The list that it has seen.
+    pub seen: LinkedList<E>,
+    /// The numbers that it holds, each with its part.
+    pub held: LinkedList<(u64, Q)>,
+    /// Two lists that two seats had seen as they were joined.
+    pub told: LinkedList<E>,
+    pub heard: LinkedList<E>,
+}
