@@ -6,16 +6,16 @@ use mathlib.Core.Logic.{dite}
 use native.Mathlib.Decide.{ℕ_discrete}
 use lib.ListN.{get_elem?}
 use Rattle.atomic_table.specs.Table.{State, Me, step, opening, Allows, Splits, Joins}
-use Rattle.atomic_table.proofs.Lists.{at_set, set_else, at_longer, at_last}
-use Rattle.std.specs.Prelude.{Result, Ok, Err}
+use Rattle.atomic_table.proofs.Lists.{at_set, set_else, at_last}
+use Rattle.std.specs.Prelude.{Result, Ok}
 use Rattle.turn_hall.specs.declared.view.View.{View}
 use Rattle.turn_hall.specs.declared.view.Stage.{Stage}
-use Rattle.turn_hall.specs.declared.view.Stage.TheVariants.{Idle, Out}
+use Rattle.turn_hall.specs.declared.view.Stage.TheVariants.{Idle}
 use Rattle.turn_hall.specs.Prefixes.{IsPrefix, longer}
 use Rattle.turn_hall.specs.Numbers.{Has, AreParts, table_of, without}
-use Rattle.turn_hall.specs.Rule.{Desk, home, away, homes_of, value_at, tickets, in_line, Owned, Knows, Shows, InStage, Fits, Taken, Turns}
+use Rattle.turn_hall.specs.Rule.{Desk, home, away, homes_of, value_at, tickets, Owned, Knows, Shows, InStage, Fits, Taken, Turns}
 use Rattle.turn_hall.specs.Moves.{first_view, quiet, cut, given, copied, joined, learned}
-use Rattle.turn_hall.proofs.Lists.{put, put_here, put_else, there, changed, at_end, within, only, longer_begins, begins_longer, longer_left, longer_right}
+use Rattle.turn_hall.proofs.Lists.{put, put_here, put_else, there, changed, at_end, only, longer_begins, begins_longer, longer_left, longer_right}
 use Rattle.turn_hall.proofs.Pairs.{has_without, has_alone, without_has, alone_has, has_append, append_has, some_pair, not_empty, has_table, table_has}
 use Rattle.turn_hall.proofs.Views.{one_view, in_line_same, in_line_more, owned_set, owned_more, known_set, known_more, taken_set, taken_more, not_out}
 use Rattle.turn_hall.proofs.Turning.{stands}

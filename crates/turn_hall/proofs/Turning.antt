@@ -7,14 +7,14 @@ use native.Mathlib.Decide.{ℕ_discrete}
 use lib.ListN.{get_elem?}
 use lib.Seq.{set-get_or}
 use prog.Atomic.{either}
-use Rattle.atomic_table.specs.Table.{State, Me, Step, step, stepped, Act, keeps, takes, gives, Valid, carried_after, put_back, rest, Allows}
+use Rattle.atomic_table.specs.Table.{State, Me, step, stepped, Act, keeps, takes, gives, Valid, carried_after, put_back, rest, Allows}
 use Rattle.atomic_table.proofs.Lists.{set_again, set_else, exchanged}
-use Rattle.std.specs.Prelude.{Result, Ok, Err}
+use Rattle.std.specs.Prelude.{Result, Ok}
 use Rattle.turn_hall.specs.declared.view.View.{View}
 use Rattle.turn_hall.specs.declared.view.Stage.{Stage}
 use Rattle.turn_hall.specs.declared.view.Stage.TheVariants.{Idle, Waiting, Out}
 use Rattle.turn_hall.specs.Prefixes.{IsPrefix}
-use Rattle.turn_hall.specs.Numbers.{Has, AreParts}
+use Rattle.turn_hall.specs.Numbers.{Has}
 use Rattle.turn_hall.specs.Rule.{Desk, home, away, homes_of, value_at, tickets, in_line, Shows, InStage, Fits, Taken, Turns}
 use Rattle.turn_hall.specs.Moves.{ticket_of, staged, with_seen, drew, took, looked, added, rested, handed}
 use Rattle.turn_hall.proofs.Lists.{put, put_here, put_else, whole, further, there, changed}

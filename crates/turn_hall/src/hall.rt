@@ -47,6 +47,7 @@ pub type Row<T> = Table<
 >;
 
 /// A value that one thread has at a time, in the order of tickets.
+#[derive(Drop)]
 pub struct Hall<T: Stands> {
     pub(crate) row: Row<T>,
     ghost sized: { (row.shared.table_id.words ≡ 3) × (row.shared.table_id.slots ≡ 1) },

@@ -1,6 +1,6 @@
 use Rattle.std.proofs.Common.{rules, ◌≡◌, ◌∙◌, ap, sym}
 use mathlib.Core.Option.{some-injective}
-use Rattle.std.specs.Prelude.{Result, Ok, Err}
+use Rattle.std.specs.Prelude.{Ok}
 use Rattle.turn_hall.specs.Numbers.{AreParts}
 use Rattle.turn_hall.proofs.Slots.{same_value}
 use Rattle.turn_hall.proofs.Parting.{closes}

@@ -1,4 +1,4 @@
-use Rattle.std.proofs.Common.{rules, arith, ◌≡◌, ◌≤◌, ◌∙◌, ap, sym, subst, ◌∷◌, List, ℕ, ◌+◌, ◌-◌, length, Ok, Err}
+use Rattle.std.proofs.Common.{rules, arith, ◌≡◌, ◌≤◌, ◌∙◌, ap, sym, subst, ◌∷◌, List, ℕ, length, Ok, Err}
 use Rattle.atomic_table.specs.Table.{rest}
 use Rattle.turn_hall.specs.Prefixes.{IsPrefix}
 use Rattle.turn_hall.specs.Numbers.{Has, refreshed}

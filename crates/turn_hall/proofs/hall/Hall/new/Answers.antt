@@ -2,7 +2,7 @@ use Rattle.std.proofs.Common.{rules, ◌≡◌, sym, subst, List, ℕ, ◌+◌, 
 use Rattle.atomic_table.specs.Table.{opening}
 use Rattle.turn_hall.specs.Rule.{Turns}
 use Rattle.turn_hall.specs.Moves.{first_view}
-use Rattle.std.specs.Prelude.{Result, Ok, Err}
+use Rattle.std.specs.Prelude.{Result, Ok}
 use Rattle.turn_hall.specs.Numbers.{Has, table_of}
 use Rattle.turn_hall.proofs.Pairs.{has_table, table_has}
 use Rattle.turn_hall.proofs.Parting.{opens}
