@@ -1,0 +1,5 @@
+pub mod Change
+pub mod Crash
+pub mod Story
+pub mod Calls
+pub mod Carried
