@@ -124,13 +124,13 @@ some_may : (file : Loose) (y : Option (List ℕ)) → MayLeave (Some file) y →
 some_may file None may = absurd may
 some_may file (Some b) may = (b, refl)
 
-relinked_same : {X : Type 0} (f : List ℕ → Option X) (path : List ℕ) (w : Option X) → f path ≡ w → (q : List ℕ) → relinked w path path f q ≡ f q
+pub relinked_same : {X : Type 0} (f : List ℕ → Option X) (path : List ℕ) (w : Option X) → f path ≡ w → (q : List ℕ) → relinked w path path f q ≡ f q
 relinked_same f path None is q = refl
 relinked_same f path (Some file) is q =
     by_path path (λ q. relinked (Some file) path path f q ≡ f q) (update-here (update bytes_eq f path None) path (Some file) ∙ sym is)
     (λ q apart. update-off (update bytes_eq f path None) path (Some file) q apart ∙ update-off f path None q apart) q
 
-apart-sym : (a b : List ℕ) → bytes_eq a b ≡ false → bytes_eq b a ≡ false
+pub apart-sym : (a b : List ℕ) → bytes_eq a b ≡ false → bytes_eq b a ≡ false
 apart-sym a b apart = elim (paths b a) [
   | inl same ↦ absurd (let it : bytes_eq a b ≡ true = subst (λ (x : List ℕ). bytes_eq a x ≡ true) (sym same) (bytes_eq-same a) in cc (it, apart))
   | inr is ↦ is
