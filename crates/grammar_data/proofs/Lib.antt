@@ -1,0 +1,11 @@
+pub mod Bits
+pub mod Terminals
+pub mod Reader
+pub mod Steady
+pub mod Viable
+pub mod Judged
+pub mod Found
+pub mod Once
+pub mod Tokens
+pub mod Firsts
+pub mod Loops
