@@ -1,0 +1,13 @@
+//! The tokens of a text, or the least place at which it has none; and what a string means.
+#![tactic(auto)]
+
+mod lex;
+mod piece;
+mod reach;
+mod string_part;
+
+mod token;
+
+pub use lex::{Lexed, tokens, tokens_before};
+pub use string_part::{means, meaning};
+pub use token::{LexFault, Token, TokenKind};
