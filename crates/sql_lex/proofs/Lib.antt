@@ -6,3 +6,4 @@ pub mod Cuts
 pub mod Places
 pub mod Lie
 pub mod Whole
+pub mod Joined

@@ -58,14 +58,17 @@ part_goes : (p : Part) (q : ℕ) (bs : List ℕ) (at : ℕ) (front total : List 
 part_goes Closes q bs at front total i w lt s = sym (append-nil front) ∙ ap (λ (x : List ℕ). front ++ x) (sym i) ∙ s
 part_goes (One c n) q bs at front total i w lt s =
     let k = w.1 in
-    let d : drop n (drop at bs) ≡ drop (at + n) bs = drop-drop n at bs in
-    (w.0, omega (arith, k, lt, length-drop at bs),
-    append_assoc front (c ∷ []) (meant q (drop (at + n) bs) 0) ∙ ap (λ (x : List ℕ). front ++ c ∷ meant q x 0) (sym d) ∙ ap (λ (x : List ℕ). front ++ x) (sym i) ∙ s)
+    let d : drop n (drop at bs) ≡ drop (at + n) bs = drop-drop n at bs in (
+      w.0,
+      omega (arith, k, lt, length-drop at bs),
+      append_assoc front (c ∷ []) (meant q (drop (at + n) bs) 0) ∙ ap (λ (x : List ℕ). front ++ c ∷ meant q x 0) (sym d) ∙ ap (λ (x : List ℕ). front ++ x) (sym i) ∙ s,
+    )
 part_goes (Two c) q bs at front total i w lt s =
-    let d : drop 2 (drop at bs) ≡ drop (at + 2) bs = drop-drop 2 at bs in
-    (omega (arith, w, lt, length-drop at bs),
-    append_assoc (front ++ 92 ∷ []) (c ∷ []) (meant q (drop (at + 2) bs) 0) ∙ append_assoc front (92 ∷ []) (c ∷ meant q (drop (at + 2) bs) 0)
-    ∙ ap (λ (x : List ℕ). front ++ 92 ∷ c ∷ meant q x 0) (sym d) ∙ ap (λ (x : List ℕ). front ++ x) (sym i) ∙ s)
+    let d : drop 2 (drop at bs) ≡ drop (at + 2) bs = drop-drop 2 at bs in (
+      omega (arith, w, lt, length-drop at bs),
+      append_assoc (front ++ 92 ∷ []) (c ∷ []) (meant q (drop (at + 2) bs) 0) ∙ append_assoc front (92 ∷ []) (c ∷ meant q (drop (at + 2) bs) 0)
+          ∙ ap (λ (x : List ℕ). front ++ 92 ∷ c ∷ meant q x 0) (sym d) ∙ ap (λ (x : List ℕ). front ++ x) (sym i) ∙ s,
+    )
 
 pub any_part : (p : Part) (q : ℕ) (bs : List ℕ) → p ≡ part q bs → 0 < length bs → PartIs p q bs × OnPart (length bs) p
 any_part p q [] e h = absurd (omega arith)

@@ -82,9 +82,11 @@ pub goes_is : (u : Until) (at n : ℕ) (bs : List ℕ) (total : Option ℕ) → 
 goes_is u at n bs total e lt so_far =
     let s = step_is (Goes n) u (drop at bs) e (omega (arith, length-drop at bs)) in
     let d : drop n (drop at bs) ≡ drop (at + n) bs = drop-drop n at bs in
-    let k = s.1.1 in
-    (s.1.0, omega (arith, k, lt, length-drop at bs),
-    ap (λ (x : List ℕ). longer (at + n) (reach u x 0)) (sym d) ∙ sym (longer_more at n (at + n) (reach u (drop n (drop at bs)) 0) refl) ∙ ap (longer at) (sym s.0) ∙ so_far)
+    let k = s.1.1 in (
+      s.1.0,
+      omega (arith, k, lt, length-drop at bs),
+      ap (λ (x : List ℕ). longer (at + n) (reach u x 0)) (sym d) ∙ sym (longer_more at n (at + n) (reach u (drop n (drop at bs)) 0) refl) ∙ ap (longer at) (sym s.0) ∙ so_far,
+    )
 
 no_more : (at : ℕ) (bs : List ℕ) → length bs ≤ at → drop at bs ≡ []
 no_more zero [] h = refl

@@ -5,9 +5,10 @@ mod lex;
 mod piece;
 mod reach;
 mod string_part;
-
+#[cfg(test)]
+mod tests;
 mod token;
 
 pub use lex::{Lexed, tokens, tokens_before};
-pub use string_part::{means, meaning};
+pub use string_part::{meaning, means};
 pub use token::{LexFault, Token, TokenKind};

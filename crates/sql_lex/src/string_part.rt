@@ -113,13 +113,7 @@ fn strip(c: u8, bytes: &[u8]) -> Option<&[u8]>
 {
     match bytes {
         [] => None,
-        [d, rest @ ..] => {
-            if c == *d {
-                Some(rest)
-            } else {
-                None
-            }
-        }
+        [d, rest @ ..] => { if c == *d { Some(rest) } else { None } }
     }
 }
 
