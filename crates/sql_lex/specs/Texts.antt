@@ -2,7 +2,7 @@
 use Rattle.std.specs.Prelude.{◌≡◌, ℕ, zero, suc, ◌+◌, ◌-◌, List, [], ◌∷◌, ◌++◌, length, map, slice_range, slice_index, Option, Some, None}
 use Rattle.grammar_data.specs.Lexemes.{Lexeme, word, number, quoted, string, sign, broken, content}
 use Rattle.grammar_data.specs.Grammar.{Grammar}
-use Rattle.grammar_data.specs.Judging.{Verdict, good, syntax_at, too_long, Reads}
+use Rattle.grammar_data.specs.Judging.{Verdict, good, syntax_at, too_long, Reads, verdict_of}
 use Rattle.sql_lex.specs.declared.token.Token.{Token}
 use Rattle.sql_lex.specs.declared.token.TokenKind.{TokenKind}
 use Rattle.sql_lex.specs.declared.token.TokenKind.TheVariants.{Word, Number, Quoted, Str, Sign}
@@ -56,3 +56,11 @@ reading_of text (too_long l rest) = name_too_long (content l)
 -- the text reads so by the grammar
 abbrev pub ReadsAs : {A : Type 0} → Grammar A → List ℕ → Reading A → Type 0
 ReadsAs {A} g text r = (verdict : Verdict A) × Reads g (lexemes text) verdict × (r ≡ reading_of text verdict)
+
+-- each text reads as the plain reader finds it
+abbrev pub EachTextReads : {A : Type 0} → Grammar A → Type 0
+EachTextReads g = (text : List ℕ) → ReadsAs g text (reading_of text (verdict_of g (lexemes text)))
+
+-- no text reads in two ways
+abbrev pub EachTextReadsOnce : {A : Type 0} → Grammar A → Type 0
+EachTextReadsOnce {A} g = (text : List ℕ) (a b : Reading A) → ReadsAs g text a → ReadsAs g text b → a ≡ b

@@ -7,8 +7,10 @@ mod reach;
 mod string_part;
 #[cfg(test)]
 mod tests;
+mod text_laws;
 mod token;
 
 pub use lex::{Lexed, tokens, tokens_before};
 pub use string_part::{meaning, means};
+pub use text_laws::reading_laws;
 pub use token::{LexFault, Token, TokenKind};

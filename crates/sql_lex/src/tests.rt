@@ -1,96 +1,102 @@
-use crate::{LexFault, Token, TokenKind, meaning, means, tokens, tokens_before};
+ghost use Rattle.std.specs.Prelude.{ℕ, List, codes};
+ghost use Rattle.grammar_data.specs.Lexemes.{name};
+ghost use Rattle.grammar_data.specs.Grammar.{one};
+ghost use Rattle.grammar_data.specs.Rules.{word_of, listed, ◌⊳◌};
+
+use crate::{LexFault, Token, TokenKind, meaning, means, reading_laws, tokens, tokens_before};
+use grammar_data::Language;
 use std::alloc::{AllocError, Global};
 use std::test::Fail;
 
-/// Texts and their tokens: W a word, N a number, Q a quoted name, S a string, C a sign, with the bytes between which it stands.
+/// Texts and their tokens: w a word, n a number, q a quoted name, s a string, c a sign, with the bytes between which it stands.
 const TEXTS: [(&str, &str); 56] = [
     ("", ""),
     (" \t\r\n", ""),
-    ("create", "W0-6 "),
-    ("_a1 1a A_", "W0-3 W4-6 W7-9 "),
-    ("0 007 12", "N0-1 N2-5 N6-8 "),
-    ("1.5e3", "N0-1 C1-2 W2-5 "),
-    ("`a` `1` `_`", "Q0-3 Q4-7 Q8-11 "),
-    ("`a``b`", "Q0-3 Q3-6 "),
-    ("'a' \"b\"", "S0-3 S4-7 "),
-    ("''", "S0-2 "),
-    ("''''", "S0-4 "),
-    ("'a''b'c", "S0-6 W6-7 "),
-    ("\"a\"\"b\"", "S0-6 "),
-    ("'a\"b'", "S0-5 "),
-    ("\"a'b\"", "S0-5 "),
-    (r"'\''", "S0-4 "),
-    (r"'\\'", "S0-4 "),
-    (r#""\"""#, "S0-4 "),
-    (r"'\%\_\0\b\n\r\t\Z\q'", "S0-20 "),
-    ("'a\nb'", "S0-5 "),
-    ("'\u{e9}'", "S0-4 "),
-    ("'/* # -- '", "S0-10 "),
-    ("(),.;", "C0-1 C1-2 C2-3 C3-4 C4-5 "),
-    ("=*+-@", "C0-1 C1-2 C2-3 C3-4 C4-5 "),
-    ("a.b", "W0-1 C1-2 W2-3 "),
-    ("# a\nb", "W4-5 "),
-    ("a#b", "W0-1 "),
-    ("# '\n' '", "S4-7 "),
-    ("-- a\nb", "W5-6 "),
-    ("--\tb\nc", "W5-6 "),
-    ("--\r\nc", "W4-5 "),
-    ("a--", "W0-1 "),
-    ("a--\nb", "W0-1 W4-5 "),
-    ("a-- b", "W0-1 "),
-    ("--a", "C0-1 C1-2 W2-3 "),
-    ("---", "C0-1 "),
-    ("--;", "C0-1 C1-2 C2-3 "),
-    ("/* a */b", "W7-8 "),
-    ("/**/a", "W4-5 "),
-    ("/***/a", "W5-6 "),
-    ("/*/ */a", "W6-7 "),
-    ("/* /* */a", "W8-9 "),
-    ("a/* ' */b", "W0-1 W8-9 "),
-    ("a/*!50000 b*/c", "W0-1 W10-11 W13-14 "),
-    ("/*!b*/", "W3-4 "),
-    ("/*!5*/", "N3-4 "),
-    ("/*!5000 b*/", "N3-7 W8-9 "),
-    ("/*!500001*/", "N8-9 "),
-    ("/*!5000a*/", "W3-8 "),
+    ("create", "w0-6 "),
+    ("_a1 1a A_", "w0-3 w4-6 w7-9 "),
+    ("0 007 12", "n0-1 n2-5 n6-8 "),
+    ("1.5e3", "n0-1 c1-2 w2-5 "),
+    ("`a` `1` `_`", "q0-3 q4-7 q8-11 "),
+    ("`a``b`", "q0-3 q3-6 "),
+    ("'a' \"b\"", "s0-3 s4-7 "),
+    ("''", "s0-2 "),
+    ("''''", "s0-4 "),
+    ("'a''b'c", "s0-6 w6-7 "),
+    ("\"a\"\"b\"", "s0-6 "),
+    ("'a\"b'", "s0-5 "),
+    ("\"a'b\"", "s0-5 "),
+    (r"'\''", "s0-4 "),
+    (r"'\\'", "s0-4 "),
+    (r#""\"""#, "s0-4 "),
+    (r"'\%\_\0\b\n\r\t\Z\q'", "s0-20 "),
+    ("'a\nb'", "s0-5 "),
+    ("'\u{e9}'", "s0-4 "),
+    ("'/* # -- '", "s0-10 "),
+    ("(),.;", "c0-1 c1-2 c2-3 c3-4 c4-5 "),
+    ("=*+-@", "c0-1 c1-2 c2-3 c3-4 c4-5 "),
+    ("a.b", "w0-1 c1-2 w2-3 "),
+    ("# a\nb", "w4-5 "),
+    ("a#b", "w0-1 "),
+    ("# '\n' '", "s4-7 "),
+    ("-- a\nb", "w5-6 "),
+    ("--\tb\nc", "w5-6 "),
+    ("--\r\nc", "w4-5 "),
+    ("a--", "w0-1 "),
+    ("a--\nb", "w0-1 w4-5 "),
+    ("a-- b", "w0-1 "),
+    ("--a", "c0-1 c1-2 w2-3 "),
+    ("---", "c0-1 "),
+    ("--;", "c0-1 c1-2 c2-3 "),
+    ("/* a */b", "w7-8 "),
+    ("/**/a", "w4-5 "),
+    ("/***/a", "w5-6 "),
+    ("/*/ */a", "w6-7 "),
+    ("/* /* */a", "w8-9 "),
+    ("a/* ' */b", "w0-1 w8-9 "),
+    ("a/*!50000 b*/c", "w0-1 w10-11 w13-14 "),
+    ("/*!b*/", "w3-4 "),
+    ("/*!5*/", "n3-4 "),
+    ("/*!5000 b*/", "n3-7 w8-9 "),
+    ("/*!500001*/", "n8-9 "),
+    ("/*!5000a*/", "w3-8 "),
     ("/*!*/", ""),
-    ("/*!* */", "C3-4 "),
-    ("/*! /* c */ d */e", "W12-13 W16-17 "),
-    ("/*! '*/' */1a 12", "S4-8 W11-13 N14-16 "),
-    ("/*! # */\na*/b", "W9-10 W12-13 "),
-    ("/*! -- */\n*/a", "W12-13 "),
-    ("/*!00000a*//*!99999b*/", "W8-9 W19-20 "),
+    ("/*!* */", "c3-4 "),
+    ("/*! /* c */ d */e", "w12-13 w16-17 "),
+    ("/*! '*/' */1a 12", "s4-8 w11-13 n14-16 "),
+    ("/*! # */\na*/b", "w9-10 w12-13 "),
+    ("/*! -- */\n*/a", "w12-13 "),
+    ("/*!00000a*//*!99999b*/", "w8-9 w19-20 "),
 ];
 
 /// Texts, their tokens before the least bad place, and that place.
 const BAD_TEXTS: [(&str, &str, usize); 52] = [
     ("$", "", 0),
-    ("a $", "W0-1 ", 2),
-    ("a!b", "W0-1 ", 1),
-    ("a/b", "W0-1 ", 1),
+    ("a $", "w0-1 ", 2),
+    ("a!b", "w0-1 ", 1),
+    ("a/b", "w0-1 ", 1),
     ("/", "", 0),
-    ("a */", "W0-1 C2-3 ", 3),
+    ("a */", "w0-1 c2-3 ", 3),
     ("[", "", 0),
-    ("a % b", "W0-1 ", 2),
-    ("a:b", "W0-1 ", 1),
+    ("a % b", "w0-1 ", 2),
+    ("a:b", "w0-1 ", 1),
     ("?", "", 0),
     ("\\", "", 0),
-    ("a<b", "W0-1 ", 1),
-    ("a\u{b}", "W0-1 ", 1),
-    ("a\u{c}b", "W0-1 ", 1),
-    ("a\0", "W0-1 ", 1),
+    ("a<b", "w0-1 ", 1),
+    ("a\u{b}", "w0-1 ", 1),
+    ("a\u{c}b", "w0-1 ", 1),
+    ("a\0", "w0-1 ", 1),
     ("\u{a0}", "", 0),
     ("\u{e9}", "", 0),
-    ("a\u{e9}", "W0-1 ", 1),
-    ("'a' ~ 'b", "S0-3 ", 4),
+    ("a\u{e9}", "w0-1 ", 1),
+    ("'a' ~ 'b", "s0-3 ", 4),
     ("`", "", 0),
     ("``", "", 0),
-    ("a ``", "W0-1 ", 2),
+    ("a ``", "w0-1 ", 2),
     ("`a", "", 0),
     ("`a b`", "", 0),
     ("`a-b` c", "", 0),
     ("`a\u{e9}`", "", 0),
-    ("`a``", "Q0-3 ", 3),
+    ("`a``", "q0-3 ", 3),
     ("'", "", 0),
     ("'a", "", 0),
     (r"'a\'", "", 0),
@@ -98,24 +104,24 @@ const BAD_TEXTS: [(&str, &str, usize); 52] = [
     ("'a\"", "", 0),
     ("\"a'", "", 0),
     (r"'\", "", 0),
-    ("a 'b", "W0-1 ", 2),
+    ("a 'b", "w0-1 ", 2),
     ("/*", "", 0),
     ("/*/", "", 0),
     ("/* *", "", 0),
-    ("a/* b", "W0-1 ", 1),
-    ("a /* b */ /* c", "W0-1 ", 10),
+    ("a/* b", "w0-1 ", 1),
+    ("a /* b */ /* c", "w0-1 ", 10),
     ("/*!", "", 0),
     ("/*!50000", "", 0),
-    ("a /*!40000 x", "W0-1 ", 2),
+    ("a /*!40000 x", "w0-1 ", 2),
     ("/*! $", "", 0),
-    ("/*! a $ */", "W4-5 ", 6),
-    ("/*! a /*! */ b", "W4-5 ", 6),
+    ("/*! a $ */", "w4-5 ", 6),
+    ("/*! a /*! */ b", "w4-5 ", 6),
     ("/*! 'a*/", "", 0),
     ("/*! `a*/", "", 0),
     ("/*! # */", "", 0),
     ("/*! -- */", "", 0),
     ("/*! /* */", "", 0),
-    ("/*!a*/*/", "W3-4 C6-7 ", 7),
+    ("/*!a*/*/", "w3-4 c6-7 ", 7),
 ];
 
 /// Strings as they are written, and what they mean.
@@ -137,11 +143,11 @@ const STRINGS: [(&str, &str); 13] = [
 
 fn letter(kind: TokenKind) -> &'static str {
     match kind {
-        TokenKind::Word => "W",
-        TokenKind::Number => "N",
-        TokenKind::Quoted => "Q",
-        TokenKind::Str => "S",
-        TokenKind::Sign => "C",
+        TokenKind::Word => "w",
+        TokenKind::Number => "n",
+        TokenKind::Quoted => "q",
+        TokenKind::Str => "s",
+        TokenKind::Sign => "c",
     }
 }
 
@@ -221,4 +227,19 @@ fn texts_are_bad_at_their_least_bad_place(rt: HostRuntime) -> Result<(), Fail> {
 fn strings_mean_their_bytes(rt: HostRuntime) -> Result<(), Fail> {
     assert_eq!(rt; first_other_meaning(rt.alloc(), &STRINGS)?, None);
     Ok(())
+}
+
+/// The word USE, and names divided by commas.
+struct Uses {}
+
+impl Language for Uses {
+    ghost Tree = { List (List ℕ) };
+
+    ghost grammar = { word_of (codes "USE") ⊳ listed (one name) };
+}
+
+#[test]
+#[tactic(auto, unfolding(grammar_data::specs::Lexemes::takes))]
+fn texts_read_by_a_small_grammar_in_one_way() {
+    reading_laws::<Uses>();
 }
