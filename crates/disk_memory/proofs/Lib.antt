@@ -6,3 +6,4 @@ pub mod Listed
 pub mod Until
 pub mod Changes
 pub mod Stops
+pub mod BySize

@@ -37,6 +37,13 @@ impl MemoryDisk {
         }
     }
 
+    /// Whether it keeps a record of its calls, and so can be stopped.
+    pub fn keeps_record(&self) -> bool
+        ensures { result ≡ keeps self.now }
+    {
+        self.calls.keep
+    }
+
     /// How often the disk could not grow. It stands still at `u64::MAX`.
     pub fn lacked(&self) -> u64
         ensures { result ≡ lacked_of self.now }
