@@ -1,4 +1,8 @@
-use crate::{List, Name, NameFault, Text, TryCopy, is_reserved, is_system_schema};
+use crate::{
+    List, Name, NameFault, ObjName, ObjectKey, Text, TryCopy, is_reserved, is_system_schema,
+    path_of, paths_are_apart, temp_path,
+};
+use std::alloc::AllocError;
 use std::test::Fail;
 
 const SIXTY_FOUR: &str = "aaaaaaaaaaaaaaaaaaaaaaaaaaaaaaaaaaaaaaaaaaaaaaaaaaaaaaaaaaaaaaaa";
@@ -81,5 +85,72 @@ fn lists_and_texts_grow_and_are_copied(rt: HostRuntime) -> Result<(), Fail> {
     assert_eq!(rt; Text::of(alloc, "ONE")?.lowered()?.as_str(), "one");
     let short = Text::from_string(String::from_str(alloc, "s")?);
     assert_eq!(rt; (short.len(), short.is_empty()), (1, false));
+    Ok(())
+}
+
+#[test]
+fn objects_have_keys_and_paths(rt: HostRuntime) -> Result<(), Fail> {
+    let alloc = rt.alloc();
+    let schema = Name::read(alloc, "d", false)?;
+    let name = Name::read(alloc, "T_1", false)?;
+    let object = ObjName { schema, name };
+    assert_eq!(rt; path_of(alloc, &object)?.as_str(), "d/T_1.ibd");
+    for (space, path) in [
+        (0, "d/#sql-ib0.ibd"),
+        (7, "d/#sql-ib7.ibd"),
+        (4294967295, "d/#sql-ib4294967295.ibd"),
+    ] {
+        assert_eq!(rt; temp_path(alloc, &object.schema, space)?.as_str(), path);
+    }
+    Ok(())
+}
+
+fn key_at(place: u32, object: &ObjName) -> Result<ObjectKey, AllocError> {
+    let schema = object.schema.copy()?;
+    let folded = object.name.copy()?;
+    Ok(match place {
+        0 => ObjectKey::Schemas,
+        1 => ObjectKey::Schema(schema),
+        2 => ObjectKey::Objects(schema),
+        3 => ObjectKey::Object(object.copy()?),
+        4 => ObjectKey::Children(object.copy()?),
+        _ => ObjectKey::Constraint { schema, folded },
+    })
+}
+
+fn is_copied(key: &ObjectKey) -> Result<bool, AllocError> {
+    Ok(key.copy()? == *key)
+}
+
+fn is_below(key: &ObjectKey, other: &ObjectKey) -> bool {
+    key < other
+}
+
+fn is_key_in_order(place: u32, next: u32, object: &ObjName) -> Result<bool, AllocError> {
+    let key = key_at(place, object)?;
+    let next = key_at(next, object)?;
+    Ok(is_copied(&key)? && is_below(&key, &next))
+}
+
+#[test]
+fn keys_are_copied_and_in_the_order_of_their_kinds(rt: HostRuntime) -> Result<(), Fail> {
+    let schema = Name::read(rt.alloc(), "d", false)?;
+    let name = Name::read(rt.alloc(), "t", false)?;
+    let object = ObjName { schema, name };
+    for place in 0..5 {
+        assert!(rt; is_key_in_order(place, place + 1, &object)?, "at {place}");
+    }
+    Ok(())
+}
+
+#[test]
+fn options_and_flags_are_copied(rt: HostRuntime) -> Result<(), Fail> {
+    let some = Some(Name::read(rt.alloc(), "d", false)?);
+    assert!(rt; some.copy()? == some);
+    assert_eq!(rt;
+        (None::<u32>.copy()?, Some(3u32).copy()?, true.copy()?),
+        (None, Some(3), true)
+    );
+    paths_are_apart();
     Ok(())
 }

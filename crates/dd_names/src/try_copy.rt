@@ -14,3 +14,18 @@ impl TryCopy for u32 {
         Ok(*self)
     }
 }
+
+impl TryCopy for bool {
+    fn copy(&self) -> Result<bool, AllocError> {
+        Ok(*self)
+    }
+}
+
+impl<T: TryCopy> TryCopy for Option<T> {
+    fn copy(&self) -> Result<Option<T>, AllocError> {
+        match self {
+            None => Ok(None),
+            Some(value) => Ok(Some(value.copy()?)),
+        }
+    }
+}

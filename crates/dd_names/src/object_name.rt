@@ -1,0 +1,56 @@
+use crate::name::Name;
+use crate::try_copy::TryCopy;
+use std::alloc::AllocError;
+
+/// The name of a table or a view with the name of its schema. Object names are in order of their schemas and then of
+/// their own names, each byte by byte (MySQL 8.0 Reference Manual, 9.2.2).
+#[derive(Debug, Drop, PartialEq, Eq, PartialOrd, Ord)]
+pub struct ObjName {
+    /// The schema's name.
+    pub schema: Name,
+    /// The object's own name.
+    pub name: Name,
+}
+
+impl TryCopy for ObjName {
+    fn copy(&self) -> Result<ObjName, AllocError> {
+        Ok(ObjName {
+            schema: self.schema.copy()?,
+            name: self.name.copy()?,
+        })
+    }
+}
+
+/// What can be looked at in a dictionary, each by its key. Keys are in the order of their variants, and within one in
+/// that of their names.
+#[derive(Debug, Drop, PartialEq, Eq, PartialOrd, Ord)]
+pub enum ObjectKey {
+    /// The names of all schemas.
+    Schemas,
+    /// The schema of that name.
+    Schema(Name),
+    /// The names of all objects of a schema.
+    Objects(Name),
+    /// The table or view of that name.
+    Object(ObjName),
+    /// The names of the tables with a foreign key to a table.
+    Children(ObjName),
+    /// The table with a constraint in a schema, by the constraint's folded name.
+    Constraint { schema: Name, folded: Name },
+}
+
+impl TryCopy for ObjectKey {
+    fn copy(&self) -> Result<ObjectKey, AllocError> {
+        match self {
+            ObjectKey::Schemas => Ok(ObjectKey::Schemas),
+            ObjectKey::Schema(name) => Ok(ObjectKey::Schema(name.copy()?)),
+            ObjectKey::Objects(schema) => Ok(ObjectKey::Objects(schema.copy()?)),
+            ObjectKey::Object(name) => Ok(ObjectKey::Object(name.copy()?)),
+            ObjectKey::Children(parent) => Ok(ObjectKey::Children(parent.copy()?)),
+            ObjectKey::Constraint { schema, folded } => Ok(ObjectKey::Constraint {
+                schema: schema.copy()?,
+                folded: folded.copy()?,
+            }),
+        }
+    }
+}
