@@ -1,0 +1,16 @@
+//! What statements say of columns, keys and foreign keys, and what listings show.
+#![tactic(auto)]
+
+mod choices;
+mod listing;
+mod literal;
+mod number_text;
+#[cfg(test)]
+mod tests;
+mod words;
+
+pub use choices::{ColumnType, FkRule, IndexClass, IntSize};
+pub use listing::{Cell, ListRow, Listing};
+pub use literal::Literal;
+pub use number_text::NumberText;
+pub use words::{ColumnWords, FkWords, KeyWords, ObjRef, TypeWords};
