@@ -1,0 +1,8 @@
+//! Tables of texts with what they read as, each of which the definitions of tokens and grammar are computed on.
+#![tactic(auto)]
+
+mod computed;
+#[cfg(test)]
+mod tests;
+
+pub use computed::examples;
