@@ -1,0 +1,3 @@
+pub mod NameTexts
+pub mod FrontKinds
+pub mod Made
