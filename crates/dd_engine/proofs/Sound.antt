@@ -28,6 +28,7 @@ session_stays cat ses (CreateDatabase if_not_exists name) answer =
       | false ↦ changes_keep (SchemaMade name ∷ []) ses answer
     ]
 session_stays cat ses ShowDatabases answer = refl
+session_stays cat ses _ answer = refl
 
 -- what one more entry is
 pub record IsNext (old new : NameSet) (history : List Entry) (e : Entry) : Type 0 where

@@ -4,7 +4,7 @@ use Rattle.dd_engine.specs.declared.history.Answer.{Answer}
 use Rattle.dd_engine.specs.declared.history.Answer.TheVariants.{Done, Rows, Error, Memory}
 use Rattle.dd_engine.specs.declared.history.Entry.{Entry}
 use Rattle.dd_engine.specs.Catalog.{Catalog, Session, new_session}
-use Rattle.dd_engine.specs.Outcome.{Outcome, Refused, Listed, Changed, applied, outcome}
+use Rattle.dd_engine.specs.Outcome.{Outcome, Refused, Listed, Changed, NotRun, applied, outcome}
 
 -- the answer says the outcome, or that there was no memory
 abbrev pub Answers : Outcome → Answer → Type 0
@@ -20,6 +20,7 @@ Answers (Refused r) Done = ⊥
 Answers (Refused r) (Rows listing) = ⊥
 Answers (Refused r) (Error error) = error ≡ r
 Answers (Refused r) Memory = ⊤
+Answers NotRun answer = ⊥
 
 -- only what was done changes the catalog
 abbrev pub next_catalog : Outcome → Answer → Catalog → Catalog
@@ -29,6 +30,7 @@ next_catalog (Changed changes ses) (Error error) cat = cat
 next_catalog (Changed changes ses) Memory cat = cat
 next_catalog (Listed l) answer cat = cat
 next_catalog (Refused r) answer cat = cat
+next_catalog NotRun answer cat = cat
 
 -- and the session
 abbrev pub next_session : Outcome → Answer → Session → Session
@@ -38,6 +40,7 @@ next_session (Changed changes left) (Error error) ses = ses
 next_session (Changed changes left) Memory ses = ses
 next_session (Listed l) answer ses = ses
 next_session (Refused r) answer ses = ses
+next_session NotRun answer ses = ses
 
 -- the outcome of an entry's statement for its session
 abbrev pub outcome_of : Catalog → (ℕ → Session) → Entry → Outcome

@@ -1,13 +1,13 @@
 -- What each statement is refused for, lists or changes.
-use Rattle.std.specs.Prelude.{ℕ, List, [], ◌∷◌, map, Bool, ◌||◌, if◌then◌else◌, codes}
+use Rattle.std.specs.Prelude.{ℕ, List, [], ◌∷◌, map, Bool, true, false, ◌||◌, if◌then◌else◌, codes}
 use Rattle.std.specs.FinMap as finite_map
 use Rattle.dd_names.specs.Reserved.{is_system_schema}
-use Rattle.ddl_words.specs.Errors.{ErrorValue}
+use Rattle.dd_errors.specs.Errors.{ErrorValue}
 use Rattle.ddl_words.specs.declared.statement.Statement.{Statement}
 use Rattle.ddl_words.specs.declared.statement.Statement.TheVariants.{CreateDatabase, ShowDatabases}
-use Rattle.ddl_words.specs.declared.listing.Cell.{Cell}
-use Rattle.ddl_words.specs.declared.listing.Cell.TheVariants.{Value}
-use Rattle.ddl_words.specs.declared.listing.Listing.{Listing}
+use Rattle.dd_objects.specs.declared.listing.Cell.{Cell}
+use Rattle.dd_objects.specs.declared.listing.Cell.TheVariants.{Value}
+use Rattle.dd_objects.specs.declared.listing.Listing.{Listing}
 use Rattle.dd_engine.specs.Catalog.{Catalog, Session}
 
 -- one thing that a statement changes
@@ -22,11 +22,13 @@ abbrev pub applied : List Change → Catalog → Catalog
 applied [] cat = cat
 applied (change ∷ changes) cat = applied changes (changed change cat)
 
--- a statement is refused, lists something, or makes changes and leaves a session
+-- A statement is refused, lists something, or makes changes and leaves a session. One of a kind that isn't run has none of
+-- these: no answer to it is right.
 pub data Outcome : Type 0 where
   Refused : ErrorValue → Outcome
   Listed : Listing → Outcome
   Changed : List Change → Session → Outcome
+  NotRun : Outcome
 
 -- the schema is there, or it is one that the server has for itself
 abbrev pub is_present : Catalog → List ℕ → Bool
@@ -51,3 +53,10 @@ databases cat = record { header = codes "Database" ∷ []; rows = map row_of (fi
 abbrev pub outcome : Catalog → Session → Statement → Outcome
 outcome cat ses (CreateDatabase if_not_exists name) = create_database cat ses if_not_exists name
 outcome cat ses ShowDatabases = Listed (databases cat)
+outcome cat ses _ = NotRun
+
+-- a statement of a kind that is run: CREATE DATABASE and SHOW DATABASES
+abbrev pub is_run : Statement → Bool
+is_run (CreateDatabase if_not_exists name) = true
+is_run ShowDatabases = true
+is_run _ = false

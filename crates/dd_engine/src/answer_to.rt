@@ -1,18 +1,21 @@
 // What a statement is answered over a set of schemas, and what it makes of them.
-ghost use Rattle.std.specs.Prelude.{◌≡◌, ◌∷◌, [], IfOk, map, codes};
+ghost use Rattle.std.specs.Prelude.{◌≡◌, ◌∷◌, [], IfOk, map, codes, true};
 ghost use Rattle.std.specs.FinMap as finite_map;
 ghost use Rattle.dd_engine.specs.Catalog.{new_session, of_schemas};
-ghost use Rattle.dd_engine.specs.Outcome.{outcome, row_of, schema_exists};
+ghost use Rattle.dd_engine.specs.Outcome.{outcome, is_run, row_of, schema_exists};
 ghost use Rattle.dd_engine.specs.History.{Answers, next_catalog};
 
 use crate::history::Answer;
 use crate::name_set::NameSet;
+use dd_errors::SqlError;
 use dd_names::{List, Name, Text, TryCopy, is_system_schema};
-use ddl_words::{Cell, ListRow, Listing, SqlError, Statement};
+use dd_objects::{Cell, ListRow, Listing};
+use ddl_words::Statement;
 use std::alloc::{AllocError, Global};
 
 /// Answers a statement, and leaves the schemas as the answer says.
 pub fn answer_to(alloc: Global, schemas: &mut NameSet, statement: &Statement) -> Answer
+    requires { is_run statement.now ≡ true }
     ensures answers { Answers (outcome (of_schemas schemas.old) new_session statement.now) result }
     ensures next { next_catalog (outcome (of_schemas schemas.old) new_session statement.now) result (of_schemas schemas.old) ≡ of_schemas schemas.new }
 {
@@ -22,6 +25,7 @@ pub fn answer_to(alloc: Global, schemas: &mut NameSet, statement: &Statement) ->
             name,
         } => create_database(alloc, schemas, *if_not_exists, name),
         Statement::ShowDatabases => show_databases(alloc, schemas),
+        _ => unreachable!(),
     }
 }
 
@@ -47,6 +51,7 @@ fn create_database(alloc: Global, schemas: &mut NameSet, if_not_exists: bool, na
     }
 }
 
+#[tactic(auto, unfolding(dd_errors::specs::Errors::form_of))]
 fn schema_exists(alloc: Global, name: &Name) -> Result<SqlError, AllocError>
     ensures { IfOk result (λ error. error ≡ schema_exists name.now) }
 {

@@ -1,5 +1,7 @@
+use dd_errors::SqlError;
 use dd_names::List;
-use ddl_words::{Listing, SqlError, Statement};
+use dd_objects::Listing;
+use ddl_words::Statement;
 
 /// What a statement was answered.
 #[derive(Debug, Drop)]

@@ -1,4 +1,5 @@
-ghost use Rattle.std.specs.Prelude.{◌≡◌, ◌<◌, ◌^◌, [], IfErr, OnOk, length};
+ghost use Rattle.std.specs.Prelude.{◌≡◌, ◌<◌, ◌^◌, [], IfErr, OnOk, length, true};
+ghost use Rattle.dd_engine.specs.Outcome.{is_run};
 ghost use Rattle.dd_engine.specs.Catalog.{empty_catalog};
 ghost use Rattle.dd_engine.specs.Engine.{Adds, ArePlainFrom};
 ghost use Rattle.dd_engine.specs.History.{LegalHistory};
@@ -43,9 +44,10 @@ impl PlainEngine {
         }
     }
 
-    /// Answers a statement by one entry more, or hands it back for want of memory and stays as it is.
+    /// Answers a statement of a kind that is run by one entry more, or hands it back for want of memory and stays as it is.
     pub fn answer(&mut self, statement: Statement) -> Result<(), (Statement, AllocError)>
-        requires { length self.old < 2 ^ 32 }
+        requires room { length self.old < 2 ^ 32 }
+        requires run { is_run statement ≡ true }
         ensures ok { OnOk result (Adds self.old self.new statement) }
         ensures err { IfErr result (λ back. (back.0 ≡ statement) × (self.new ≡ self.old)) }
         ensures legal { LegalHistory empty_catalog self.new }

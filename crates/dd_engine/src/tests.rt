@@ -1,10 +1,15 @@
-use crate::{Answer, PlainEngine};
+ghost use Rattle.std.specs.Prelude.{◌≡◌, IfOk, true};
+ghost use Rattle.dd_engine.specs.Outcome.{is_run};
+
+use crate::{Answer, Entry, PlainEngine};
 use dd_names::Name;
 use ddl_words::Statement;
 use std::alloc::Global;
 use std::test::Fail;
 
-fn create(alloc: Global, if_not_exists: bool, name: &str) -> Result<Statement, Fail> {
+fn create(alloc: Global, if_not_exists: bool, name: &str) -> Result<Statement, Fail>
+    ensures { IfOk result (λ statement. is_run statement ≡ true) }
+{
     let name = Name::read(alloc, name, false)?;
     Ok(Statement::CreateDatabase {
         if_not_exists,
@@ -12,13 +17,31 @@ fn create(alloc: Global, if_not_exists: bool, name: &str) -> Result<Statement, F
     })
 }
 
-fn said(answer: &Answer) -> &'static str {
+/// Whether the engine, which has a few entries, has one more.
+fn takes(engine: &mut PlainEngine, statement: Statement) -> bool
+    requires { is_run statement ≡ true }
+{
+    engine.history().len() < 8 && engine.answer(statement).is_ok()
+}
+
+/// What was answered, and how many rows were listed.
+fn said(answer: &Answer) -> (&'static str, usize) {
     match answer {
-        Answer::Done => "done",
-        Answer::Rows(_) => "rows",
-        Answer::Error(_) => "error",
-        Answer::Memory => "memory",
+        Answer::Done => ("done", 0),
+        Answer::Rows(listing) => ("rows", listing.rows.len()),
+        Answer::Error(_) => ("error", 0),
+        Answer::Memory => ("memory", 0),
     }
+}
+
+/// The number of the first entry that says something else.
+fn first_wrong(history: &[Entry], wanted: &[(&str, usize)]) -> Option<u32> {
+    for (entry, want) in history.iter().zip(wanted) {
+        if said(&entry.answer) != *want {
+            return Some(entry.number);
+        }
+    }
+    None
 }
 
 #[test]
@@ -34,21 +57,21 @@ fn statements_are_answered_in_order(rt: HostRuntime) -> Result<(), Fail> {
         ("Sys", true),
         ("sys", false),
     ] {
-        assert!(rt; engine.history().len() < 8);
-        assert!(rt; engine.answer(create(alloc, if_not_exists, name)?).is_ok());
+        assert!(rt; takes(&mut engine, create(alloc, if_not_exists, name)?));
     }
-    assert!(rt; engine.history().len() < 8);
-    assert!(rt; engine.answer(Statement::ShowDatabases).is_ok());
-    assert_eq!(rt; engine.history().len(), 8);
+    assert!(rt; takes(&mut engine, Statement::ShowDatabases));
     let history = engine.take();
     let wanted = [
-        "done", "done", "error", "done", "done", "done", "error", "rows",
+        ("done", 0),
+        ("done", 0),
+        ("error", 0),
+        ("done", 0),
+        ("done", 0),
+        ("done", 0),
+        ("error", 0),
+        ("rows", 3),
     ];
-    for (entry, want) in history.as_slice().iter().zip(wanted) {
-        assert_eq!(rt; said(&entry.answer), want, "at {}", entry.number);
-    }
-    if let Some(Answer::Rows(listing)) = history.get(7).map(|entry| &entry.answer) {
-        assert_eq!(rt; listing.rows.len(), 3);
-    }
+    assert_eq!(rt; history.len(), wanted.len());
+    assert_eq!(rt; first_wrong(history.as_slice(), &wanted), None);
     Ok(())
 }
