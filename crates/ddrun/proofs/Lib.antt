@@ -7,3 +7,4 @@ pub mod Printing
 pub mod Sessions
 pub mod Input
 pub mod Unread
+mod Runnable

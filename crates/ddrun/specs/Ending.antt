@@ -1,8 +1,10 @@
 -- How the parts of a run end.
-use Rattle.std.specs.Prelude.{ℕ, ◌≡◌, ◌≤◌, List, [], ◌∷◌, length, Option, Result, ⊤}
+use Rattle.std.specs.Prelude.{ℕ, ◌≡◌, ◌≤◌, true, List, [], ◌∷◌, length, Option, Result, ⊤}
+use Rattle.std.specs.List.{AllByRecursion}
 use Rattle.std.specs.declared.result.Result.TheVariants as results
 use Rattle.edge_io.specs.Causes.{Rose}
 use Rattle.ddl_words.specs.declared.statement.Statement.{Statement}
+use Rattle.dd_engine.specs.Outcome.{is_run}
 use Rattle.dd_engine.specs.declared.history.Entry.{Entry}
 use Rattle.ddrun.specs.declared.script.Script.{Script}
 use Rattle.ddrun.specs.declared.print.PrintFault.{PrintFault}
@@ -15,11 +17,20 @@ use Rattle.ddrun.specs.Printed.{printed}
 abbrev pub statement_of_entry : Entry → Statement
 statement_of_entry e = e.statement
 
--- one session at most, of 100,000 statements at most
-abbrev pub IsFew : List Script → Type 0
-IsFew [] = Unit {0}
-IsFew (script ∷ []) = length script.statements ≤ 100000
-IsFew (a ∷ b ∷ scripts) = ⊥
+-- a statement of a kind that the dictionary runs
+abbrev pub IsRunnable : Statement → Type 0
+IsRunnable statement = is_run statement ≡ true
+
+-- 100,000 statements at most, each of a kind that is run
+pub record IsRunnableScript (script : Script) : Type 0 where
+  pub few : length script.statements ≤ 100000
+  pub each : AllByRecursion IsRunnable script.statements
+
+-- one session at most, which can be run
+abbrev pub AreRunnable : List Script → Type 0
+AreRunnable [] = Unit {0}
+AreRunnable (script ∷ []) = IsRunnableScript script
+AreRunnable (a ∷ b ∷ scripts) = ⊥
 
 -- why there are no sessions: the source has failed, there was no memory, or the input hasn't the form that is read
 abbrev pub IsUnread : Status → Option (List ℕ) → ℕ → ℕ → Type 0

@@ -4,3 +4,4 @@ pub mod Printed
 pub mod Writes
 pub mod Headline
 pub mod Ending
+pub mod Complaints

@@ -2,10 +2,10 @@
 use Rattle.std.specs.Prelude.{ℕ, ◌+◌, ◌==◌, List, [], ◌∷◌, ◌++◌, map, if◌then◌else◌, codes}
 use Rattle.std.specs.List.{flat_map}
 use Rattle.std.specs.Fmt.{decimal}
-use Rattle.ddl_words.specs.Errors.{ErrorValue, error_state, error_text}
-use Rattle.ddl_words.specs.declared.listing.Cell.{Cell}
-use Rattle.ddl_words.specs.declared.listing.Cell.TheVariants.{Null, Value}
-use Rattle.ddl_words.specs.declared.listing.Listing.{Listing}
+use Rattle.dd_errors.specs.Errors.{ErrorValue, error_state, error_text}
+use Rattle.dd_objects.specs.declared.listing.Cell.{Cell}
+use Rattle.dd_objects.specs.declared.listing.Cell.TheVariants.{Null, Value}
+use Rattle.dd_objects.specs.declared.listing.Listing.{Listing}
 use Rattle.dd_engine.specs.declared.history.Answer.{Answer}
 use Rattle.dd_engine.specs.declared.history.Answer.TheVariants.{Done, Rows, Error, Memory}
 use Rattle.dd_engine.specs.declared.history.Entry.{Entry}

@@ -4,8 +4,9 @@ ghost use Rattle.std.specs.List.{flat_map};
 ghost use Rattle.ddrun.specs.Printed.{answer_text, behind_tab, cell_text, entry_text, error_line, escaped, line_of, listing_text, row_text};
 
 use dd_engine::{Answer, Entry};
+use dd_errors::SqlError;
 use dd_names::Text;
-use ddl_words::{Cell, ListRow, Listing, SqlError};
+use dd_objects::{Cell, ListRow, Listing};
 use std::alloc::{AllocError, Global};
 
 /// The text of an entry's answer, with its line ends.

@@ -1,4 +1,7 @@
 // What the program says on standard error, and the status that it ends with.
+ghost use Rattle.std.specs.Prelude.{◌≡◌};
+ghost use Rattle.ddrun.specs.Complaints.{code_of, complaint_of};
+
 use crate::status::Status;
 use thiserror::Error;
 
@@ -19,7 +22,9 @@ pub enum Complaint {
 
 impl Complaint {
     /// The exit status.
-    pub fn code(&self) -> u8 {
+    pub fn code(&self) -> u8
+        ensures { result ≡ code_of self.now }
+    {
         match self {
             Complaint::Usage => 2,
             Complaint::Memory => 4,
@@ -31,7 +36,9 @@ impl Complaint {
 }
 
 /// What there is to say of a status.
-pub fn complaint_of(status: Status) -> Option<Complaint> {
+pub fn complaint_of(status: Status) -> Option<Complaint>
+    ensures { result ≡ complaint_of status }
+{
     match status {
         Status::Ok => None,
         Status::Usage => Some(Complaint::Usage),

@@ -1,5 +1,5 @@
 // The whole run: reads, answers, prints.
-ghost use Rattle.std.specs.Prelude.{◌≡◌, ◌↔◌, ◌+◌, ◌≤◌, ℕ, [], None, IfErr, IfOk, OnOk, length, map, take};
+ghost use Rattle.std.specs.Prelude.{◌≡◌, ◌↔◌, ◌+◌, ◌≤◌, ℕ, [], All, None, IfErr, IfOk, OnOk, length, map, take};
 ghost use Rattle.std.specs.Io.KnownBytes.{IsAtEnd};
 ghost use Rattle.edge_io.specs.Causes.{Rose};
 ghost use Rattle.edge_io.specs.Content.{ConsumesAtMost};
@@ -7,7 +7,7 @@ ghost use Rattle.dd_engine.specs.Catalog.{empty_catalog};
 ghost use Rattle.dd_engine.specs.Engine.{ArePlainFrom};
 ghost use Rattle.dd_engine.specs.History.{LegalHistory};
 ghost use Rattle.ddrun.specs.Headline.{AllAnswered, AreScripts, FirstAnswered, Headline, IsDone, IsGood, IsHistoryOf};
-ghost use Rattle.ddrun.specs.Ending.{IsFew, IsRun, IsUnread, statement_of_entry, status_of};
+ghost use Rattle.ddrun.specs.Ending.{AreRunnable, IsRun, IsRunnable, IsUnread, statement_of_entry, status_of};
 ghost use Rattle.ddrun.specs.Words.{command_of};
 
 use crate::command::{Command, Usage, read_words};
@@ -64,7 +64,7 @@ fn nothing_done(alloc: Global, status: Status) -> Ended
 // Reads the source to its end, or one byte past the greatest input.
 fn read_scripts<S: Source>(alloc: Global, source: &mut S) -> Result<List<Script>, Status>
     ensures sessions { IfOk result (λ sessions. AreScripts (S.left source.old) sessions) }
-    ensures few { IfOk result (λ sessions. IsFew sessions) }
+    ensures runnable { IfOk result (λ sessions. AreRunnable sessions) }
     ensures ended { OnOk result (IsAtEnd (S.left source.new)) }
     ensures bound { ConsumesAtMost (MAX_INPUT + 1) (S.left source.old) (S.left source.new) }
     ensures err { IfErr result (λ status. IsUnread status (S.left source.old) (S.faults source.old) (S.faults source.new)) }
@@ -83,7 +83,7 @@ fn read_scripts<S: Source>(alloc: Global, source: &mut S) -> Result<List<Script>
 
 // Answers the sessions, and prints the answers where every statement has one.
 fn run_scripts<K: Sink>(alloc: Global, scripts: &[Script], sink: &mut K) -> Ended
-    requires { IsFew scripts.now }
+    requires { AreRunnable scripts.now }
     ensures { IsRun result.status scripts.now result.history (K.held sink.old) (K.held sink.new) (K.faults sink.old) (K.faults sink.new) }
 {
     let (history, answered) = answer_scripts(alloc, scripts);
@@ -111,7 +111,7 @@ fn status_of(printed: Result<(), PrintFault>) -> Status
 }
 
 fn answer_scripts(alloc: Global, scripts: &[Script]) -> (History, Result<(), AllocError>)
-    requires { IsFew scripts.now }
+    requires { AreRunnable scripts.now }
     ensures history { IsHistoryOf scripts.now result.0 }
     ensures all { OnOk result.1 (AllAnswered scripts.now result.0) }
     ensures first { FirstAnswered scripts.now result.0 }
@@ -125,7 +125,8 @@ fn answer_scripts(alloc: Global, scripts: &[Script]) -> (History, Result<(), All
 
 // Answers the statements one after another until there is no memory.
 fn answer_all(alloc: Global, statements: &[Statement]) -> (History, Result<(), AllocError>)
-    requires { length statements.now ≤ MAX_STATEMENTS }
+    requires few { length statements.now ≤ MAX_STATEMENTS }
+    requires each { All IsRunnable statements.now }
     ensures legal { LegalHistory empty_catalog result.0 }
     ensures plain { ArePlainFrom 0 result.0 }
     ensures all { OnOk result.1 (map statement_of_entry result.0 ≡ statements.now) }
