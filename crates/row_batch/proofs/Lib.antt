@@ -1,0 +1,6 @@
+pub mod Fields
+pub mod Readings
+pub mod Loop
+pub mod Inserting
+pub mod Keeping
+pub mod Framing

@@ -1,0 +1,5 @@
+pub mod Order
+pub mod Batches
+pub mod Kept
+pub mod Rows
+pub mod Reading

@@ -1,0 +1,178 @@
+ghost use Rattle.std.specs.Prelude.{◌≡◌, ◌+◌, ◌<◌, ◌^◌, true, false, List, [], length, position, slice_get, slice_set, IfOk, OnOk, OnErr};
+ghost use Rattle.row_batch.specs.Order.{in_order, inserted, merged, is_put_of};
+ghost use Rattle.row_batch.specs.Batches.{IsBatch, batch_bytes, frame, PutsAsLong};
+
+use crate::bytes::Bytes;
+use crate::fault::BatchFault;
+use crate::operation::Operation;
+use crate::{placing, reading, writing};
+use std::alloc::{AllocError, Global};
+use std::marker::Model;
+
+/// Operations in the order of a batch: deletions, then prefix deletions, then puts, each group in key order. They take
+/// effect in this order. A batch whose frame is made, the bytes that a journal takes, gets no more operations.
+#[derive(Debug, Drop)]
+pub struct Batch {
+    operations: Vec<Operation>,
+    framed: Option<Vec<u8>>,
+}
+
+impl Model for Batch {
+    ghost use Rattle.std.specs.Prelude.{is_some};
+    ghost use Rattle.row_batch.specs.Batches.{BatchValue};
+    ghost use Rattle.row_batch.specs.Kept.{IsKept};
+
+    ghost Value = { BatchValue };
+
+    ghost view = { λ b. record { operations = b.operations.items; is_framed = is_some b.framed } };
+
+    ghost invariant = { λ b. IsKept b.operations.items b.framed };
+}
+
+impl Batch {
+    /// The batch without operations.
+    pub fn new(alloc: Global) -> Batch
+        ensures { result ≡ record { operations = []; is_framed = false } }
+    {
+        Batch {
+            operations: Vec::new(alloc),
+            framed: None,
+        }
+    }
+
+    /// The batch of these bytes, all of them.
+    pub fn read(alloc: Global, bytes: &[u8]) -> Result<Batch, BatchFault>
+        // What is read is a batch of these bytes, without a frame.
+        ensures found { IfOk result (λ batch. IsBatch batch.operations × (bytes.now ≡ batch_bytes batch.operations) × (batch.is_framed ≡ false)) }
+        // The bytes determine the batch.
+        ensures only { (operations : List Operation) → IsBatch operations → bytes.now ≡ batch_bytes operations → IfOk result (λ batch. batch.operations ≡ operations) }
+        ensures malformed { result ≡ Err BatchFault.Malformed → (operations : List Operation) → IsBatch operations → bytes.now ≡ batch_bytes operations → ⊥ }
+    {
+        let operations = reading::read(alloc, bytes)?;
+        Ok(Batch {
+            operations,
+            framed: None,
+        })
+    }
+
+    /// The operations in order.
+    pub fn operations(&self) -> &[Operation]
+        ensures value { result.now ≡ self.now.operations }
+        ensures batch { IsBatch self.now.operations }
+    {
+        self.operations.as_slice()
+    }
+
+    /// Whether the frame is made.
+    pub fn is_framed(&self) -> bool
+        ensures { result ≡ self.now.is_framed }
+    {
+        self.framed.is_some()
+    }
+
+    /// Adds a put behind all operations that don't come after it. For want of memory the batch stays as it is.
+    pub fn put(&mut self, key: &[u8], value: &[u8]) -> Result<(), AllocError>
+        requires open { self.old.is_framed ≡ false }
+        requires short_key { length key.now < 2 ^ 16 }
+        requires short_value { length value.now < 2 ^ 32 }
+        requires room { length self.old.operations + 1 < 2 ^ 32 }
+        ensures ok { OnOk result (self.new ≡ record { operations = inserted (Operation.Put key.now value.now) self.old.operations; is_framed = false }) }
+        ensures err { OnErr result (self.new ≡ self.old) }
+    {
+        let alloc = *self.operations.allocator();
+        let operation = Operation::Put {
+            key: Bytes::of(alloc, key)?,
+            value: Bytes::of(alloc, value)?,
+        };
+        placing::insert(&mut self.operations, operation)
+    }
+
+    /// Adds a deletion behind all operations that don't come after it. For want of memory the batch stays as it is.
+    pub fn delete(&mut self, key: &[u8]) -> Result<(), AllocError>
+        requires open { self.old.is_framed ≡ false }
+        requires short_key { length key.now < 2 ^ 16 }
+        requires room { length self.old.operations + 1 < 2 ^ 32 }
+        ensures ok { OnOk result (self.new ≡ record { operations = inserted (Operation.Delete key.now) self.old.operations; is_framed = false }) }
+        ensures err { OnErr result (self.new ≡ self.old) }
+    {
+        let alloc = *self.operations.allocator();
+        let operation = Operation::Delete {
+            key: Bytes::of(alloc, key)?,
+        };
+        placing::insert(&mut self.operations, operation)
+    }
+
+    /// Adds a deletion of all keys that begin with a prefix, behind all operations that don't come after it. For want of
+    /// memory the batch stays as it is.
+    pub fn delete_prefix(&mut self, prefix: &[u8]) -> Result<(), AllocError>
+        requires open { self.old.is_framed ≡ false }
+        requires short_prefix { length prefix.now < 2 ^ 16 }
+        requires room { length self.old.operations + 1 < 2 ^ 32 }
+        ensures ok { OnOk result (self.new ≡ record { operations = inserted (Operation.DeletePrefix prefix.now) self.old.operations; is_framed = false }) }
+        ensures err { OnErr result (self.new ≡ self.old) }
+    {
+        let alloc = *self.operations.allocator();
+        let operation = Operation::DeletePrefix {
+            prefix: Bytes::of(alloc, prefix)?,
+        };
+        placing::insert(&mut self.operations, operation)
+    }
+
+    /// Adds the operations of another batch, one after the other. For want of memory the batch stays as it is.
+    pub fn add(&mut self, other: &Batch) -> Result<(), AllocError>
+        requires open { self.old.is_framed ≡ false }
+        requires room { length self.old.operations + length other.now.operations < 2 ^ 32 }
+        ensures ok { OnOk result (self.new ≡ record { operations = merged other.now.operations self.old.operations; is_framed = false }) }
+        ensures err { OnErr result (self.new ≡ self.old) }
+    {
+        let alloc = *self.operations.allocator();
+        let copies = placing::copies(alloc, other.operations())?;
+        self.operations.reserve(copies.len())?;
+        placing::insert_all(&mut self.operations, copies);
+        Ok(())
+    }
+
+    /// The least place of a put of a key, which counts from 0; None exactly where there is none.
+    pub fn place_of(&self, key: &[u8]) -> Option<usize>
+        ensures { result ≡ position (is_put_of key.now) self.now.operations }
+    {
+        self.operations
+            .iter()
+            .position(|operation| operation.is_put_of(key))
+    }
+
+    /// Makes the frame: the bytes that a journal takes. For want of memory the batch stays as it is.
+    pub fn frame(&mut self) -> Result<(), AllocError>
+        ensures ok { OnOk result (self.new ≡ record { operations = self.old.operations; is_framed = true }) }
+        ensures err { OnErr result (self.new ≡ self.old) }
+    {
+        let alloc = *self.operations.allocator();
+        let frame = writing::frame(alloc, &self.operations)?;
+        self.framed = Some(frame);
+        Ok(())
+    }
+
+    /// The frame: a length of eight bytes, the batch's bytes, and a closed gate.
+    pub fn framed(&self) -> &[u8]
+        requires { self.now.is_framed ≡ true }
+        ensures { result.now ≡ frame self.now.operations }
+    {
+        match &self.framed {
+            Some(frame) => frame.as_slice(),
+            None => unreachable!(),
+        }
+    }
+
+    /// Replaces a put by one with a key and a value that are as long. The order must stay. It takes no memory, and a frame
+    /// that is made has the new put too.
+    pub fn set(&mut self, place: usize, key: &[u8], value: &[u8])
+        requires puts { PutsAsLong key.now value.now (slice_get self.old.operations place) }
+        requires order { in_order (slice_set self.old.operations place (Operation.Put key.now value.now)) ≡ true }
+        ensures { self.new ≡ record { operations = slice_set self.old.operations place (Operation.Put key.now value.now); is_framed = self.old.is_framed } }
+    {
+        if let Some(frame) = &mut self.framed {
+            writing::rewrite_put(frame, &self.operations, place, key, value);
+        }
+        self.operations[place].rewrite_put(key, value);
+    }
+}

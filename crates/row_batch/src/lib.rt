@@ -1,0 +1,17 @@
+//! Batches of operations on rows: their order, their bytes, and what they make of a map of rows.
+#![tactic(auto)]
+
+mod batch;
+mod bytes;
+mod fault;
+mod operation;
+mod placing;
+mod reading;
+#[cfg(test)]
+mod tests;
+mod writing;
+
+pub use batch::Batch;
+pub use bytes::Bytes;
+pub use fault::BatchFault;
+pub use operation::Operation;

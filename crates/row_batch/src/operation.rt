@@ -1,0 +1,108 @@
+ghost use Rattle.std.specs.Prelude.{◌≡◌, ◌<◌, ◌^◌, length, IfOk};
+ghost use Rattle.row_batch.specs.Order.{rank, key_of, comes_before, is_put_of};
+ghost use Rattle.row_batch.specs.Batches.{operation_bytes, PutsAsLong};
+
+use crate::bytes::Bytes;
+use std::alloc::{AllocError, Global};
+
+/// A change of a map of rows.
+#[derive(Debug, Drop)]
+pub enum Operation {
+    /// The row of a key is gone, if there is one.
+    Delete { key: Bytes },
+    /// The rows whose keys begin with a prefix are gone.
+    DeletePrefix { prefix: Bytes },
+    /// The row of a key has this value, whether there was one or not.
+    Put { key: Bytes, value: Bytes },
+}
+
+impl Operation {
+    /// The key, or the prefix of keys.
+    pub fn key(&self) -> &[u8]
+        ensures { result.now ≡ key_of self.now }
+    {
+        match self {
+            Operation::Delete { key } | Operation::Put { key, value: _ } => key.as_slice(),
+            Operation::DeletePrefix { prefix } => prefix.as_slice(),
+        }
+    }
+
+    /// A copy of the operation.
+    pub fn copy(&self, alloc: Global) -> Result<Operation, AllocError>
+        ensures { IfOk result (λ copy. copy ≡ self.now) }
+    {
+        match self {
+            Operation::Delete { key } => Ok(Operation::Delete {
+                key: Bytes::of(alloc, key.as_slice())?,
+            }),
+            Operation::DeletePrefix { prefix } => Ok(Operation::DeletePrefix {
+                prefix: Bytes::of(alloc, prefix.as_slice())?,
+            }),
+            Operation::Put { key, value } => Ok(Operation::Put {
+                key: Bytes::of(alloc, key.as_slice())?,
+                value: Bytes::of(alloc, value.as_slice())?,
+            }),
+        }
+    }
+
+    /// Whether a batch has the operation before the other.
+    pub fn comes_before(&self, other: &Operation) -> bool
+        ensures { result ≡ comes_before self.now other.now }
+    {
+        self.rank()
+            .cmp(&other.rank())
+            .then(self.key().cmp(other.key()))
+            .is_lt()
+    }
+
+    /// Whether it puts a value under a key.
+    pub fn is_put_of(&self, key: &[u8]) -> bool
+        ensures { result ≡ is_put_of key.now self.now }
+    {
+        match self {
+            Operation::Put { key: own, value: _ } => own.as_slice() == key,
+            Operation::Delete { .. } | Operation::DeletePrefix { .. } => false,
+        }
+    }
+
+    fn rank(&self) -> u8
+        ensures { result ≡ rank self.now }
+    {
+        match self {
+            Operation::Delete { .. } => 0,
+            Operation::DeletePrefix { .. } => 1,
+            Operation::Put { .. } => 2,
+        }
+    }
+
+    /// Writes another key and another value in the place of those of a put.
+    pub(crate) fn rewrite_put(&mut self, key: &[u8], value: &[u8])
+        requires { PutsAsLong key.now value.now (Some self.old) }
+        ensures { self.new ≡ Operation.Put key.now value.now }
+    {
+        match self {
+            Operation::Put {
+                key: own_key,
+                value: own_value,
+            } => {
+                own_key.overwrite(key);
+                own_value.overwrite(value);
+            }
+            Operation::Delete { .. } | Operation::DeletePrefix { .. } => unreachable!(),
+        }
+    }
+
+    /// The number of bytes of the operation in a batch.
+    #[tactic(auto, unfolding(crate::specs::Batches::operation_bytes))]
+    pub(crate) fn size(&self) -> usize
+        requires { length (operation_bytes self.now) < 2 ^ 64 }
+        ensures { result ≡ length (operation_bytes self.now) }
+    {
+        match self {
+            Operation::Delete { key } | Operation::DeletePrefix { prefix: key } => {
+                3 + key.as_slice().len()
+            }
+            Operation::Put { key, value } => 7 + key.as_slice().len() + value.as_slice().len(),
+        }
+    }
+}
