@@ -1,0 +1,5 @@
+pub mod Turning
+pub mod Bytes
+pub mod Steps
+pub mod Gated
+pub mod Exact

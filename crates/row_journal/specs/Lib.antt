@@ -1,0 +1,5 @@
+pub mod Contents
+pub mod Value
+pub mod Append
+pub mod Opening
+pub mod Gates
