@@ -1,0 +1,9 @@
+pub mod Places
+pub mod Heads
+pub mod Laws
+pub mod Opened
+pub mod Kept
+pub mod Rest
+pub mod Pieces
+pub mod Made
+pub mod Standing

@@ -1,0 +1,9 @@
+pub mod Entries
+pub mod Header
+pub mod Value
+pub mod Outcome
+pub mod Opening
+pub mod Coding
+pub mod Place
+pub mod Answer
+pub mod Making

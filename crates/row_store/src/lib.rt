@@ -1,0 +1,18 @@
+//! Rows under keys in a system file, which a journal of batches keeps through crashes.
+#![tactic(auto)]
+
+mod entries;
+mod giving;
+mod header;
+mod making;
+mod opening;
+mod outcome;
+mod reading;
+mod scanning;
+mod searching;
+mod store;
+
+pub use outcome::{Committed, RowFault, RowsRefused};
+pub use scanning::{Scan, Scanned};
+pub use searching::{Got, Search};
+pub use store::RowStore;
