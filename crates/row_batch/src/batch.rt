@@ -4,7 +4,7 @@ ghost use Rattle.row_batch.specs.Batches.{IsBatch, batch_bytes, frame, PutsAsLon
 
 use crate::bytes::Bytes;
 use crate::fault::BatchFault;
-use crate::operation::Operation;
+use crate::operation::{Operation, copies};
 use crate::{placing, reading, writing};
 use std::alloc::{AllocError, Global};
 use std::marker::Model;
@@ -126,7 +126,7 @@ impl Batch {
         ensures err { OnErr result (self.new ≡ self.old) }
     {
         let alloc = *self.operations.allocator();
-        let copies = placing::copies(alloc, other.operations())?;
+        let copies = copies(alloc, other.operations())?;
         self.operations.reserve(copies.len())?;
         placing::insert_all(&mut self.operations, copies);
         Ok(())

@@ -14,4 +14,4 @@ mod writing;
 pub use batch::Batch;
 pub use bytes::Bytes;
 pub use fault::BatchFault;
-pub use operation::Operation;
+pub use operation::{Operation, copies};

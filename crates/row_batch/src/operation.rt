@@ -106,3 +106,14 @@ impl Operation {
         }
     }
 }
+
+/// Copies of operations, in their order.
+pub fn copies(alloc: Global, operations: &[Operation]) -> Result<Vec<Operation>, AllocError>
+    ensures { IfOk result (λ copies. copies.items ≡ operations.now) }
+{
+    let mut copies = Vec::new(alloc);
+    'each: for operation in operations {
+        copies.push(operation.copy(alloc)?)?;
+    }
+    Ok(copies)
+}

@@ -1,9 +1,9 @@
 // Where an operation goes in a batch.
-ghost use Rattle.std.specs.Prelude.{◌≡◌, ◌+◌, ◌≤◌, List, length, insert, position, vec_len, vec_capacity, IfOk, OnOk, OnErr};
+ghost use Rattle.std.specs.Prelude.{◌≡◌, ◌+◌, ◌≤◌, List, length, insert, position, vec_len, vec_capacity, OnOk, OnErr};
 ghost use Rattle.row_batch.specs.Order.{comes_before, inserted, merged};
 
 use crate::operation::Operation;
-use std::alloc::{AllocError, Global};
+use std::alloc::AllocError;
 
 /// Adds an operation behind all that don't come after it.
 pub fn insert(operations: &mut Vec<Operation>, operation: Operation) -> Result<(), AllocError>
@@ -26,17 +26,6 @@ pub fn insert_all(operations: &mut Vec<Operation>, more: Vec<Operation>)
             unreachable!();
         }
     }
-}
-
-/// Copies of operations.
-pub fn copies(alloc: Global, operations: &[Operation]) -> Result<Vec<Operation>, AllocError>
-    ensures { IfOk result (λ copies. copies.items ≡ operations.now) }
-{
-    let mut copies = Vec::new(alloc);
-    'each: for operation in operations {
-        copies.push(operation.copy(alloc)?)?;
-    }
-    Ok(copies)
 }
 
 fn place_for(operations: &[Operation], operation: &Operation) -> usize

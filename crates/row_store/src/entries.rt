@@ -7,7 +7,7 @@ ghost use Rattle.row_batch.specs.Order.{key_cmp};
 ghost use Rattle.row_batch.specs.Rows.{is_under};
 ghost use Rattle.row_store.specs.Entries.{in_key_order, place_for, has_key, entries_after, entries_applied};
 
-use row_batch::{Bytes, Operation};
+use row_batch::{Bytes, Operation, copies};
 use std::alloc::{AllocError, Global};
 
 /// Copies of operations, and room for the rows that they put.
@@ -22,16 +22,6 @@ pub fn prepare(
 {
     let copies = copies(alloc, operations)?;
     rows.reserve(copies.len())?;
-    Ok(copies)
-}
-
-fn copies(alloc: Global, operations: &[Operation]) -> Result<Vec<Operation>, AllocError>
-    ensures { IfOk result (λ copies. copies.items ≡ operations.now) }
-{
-    let mut copies = Vec::new(alloc);
-    'each: for operation in operations {
-        copies.push(operation.copy(alloc)?)?;
-    }
     Ok(copies)
 }
 

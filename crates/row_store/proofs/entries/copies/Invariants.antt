@@ -1,5 +1,0 @@
-use Rattle.std.proofs.Common.{◌≡◌, take}
-use Rattle.row_store.proofs.entries.copies.Given as goal
-
-abbrev pub invariant-each : goal.invariant-each
-invariant-each l = l.copies.items ≡ take l.operation-index l.operations
