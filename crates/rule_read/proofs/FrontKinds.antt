@@ -1,8 +1,9 @@
 -- The token at the front of a text has what its kind says.
-use Rattle.std.proofs.Common.{◌≡◌, ℕ, zero, suc, ◌+◌, ◌-◌, ◌<◌, ◌≤◌, Bool, true, false, cond, ◌&&◌, ◌||◌, List, [], ◌∷◌, length, take, drop, nat_lt, Option, Some, None, refl, sym, ◌∙◌, arith}
+use Rattle.std.proofs.Common.{◌≡◌, ℕ, suc, ◌+◌, ◌-◌, ◌<◌, Bool, true, false, cond, ◌&&◌, ◌||◌, List, [], ◌∷◌, length, take, drop, nat_lt, Option, Some, None, refl, arith}
 use Rattle.std.specs.Prelude.{take_while, ◌==◌}
 use Rattle.std.specs.List.{list_all}
 use Rattle.std.specs.Char.{is_ascii_digit}
+use Rattle.std.specs.Str.{IsUtf8, is_utf8}
 use Rattle.std.proofs.lemmas.List.Sums.{take_while-cons}
 use Rattle.std.proofs.lemmas.Bool.{eqb-true}
 use Rattle.std.proofs.lemmas.Bool.Decides.{nat_tests}
@@ -18,14 +19,16 @@ use Rattle.sql_lex.specs.Bytes.{is_blank, is_sign}
 use Rattle.sql_lex.specs.Ends.{reach, starts_with_2, starts_with_3}
 use Rattle.sql_lex.specs.Pieces.{run, piece, ended, word_piece, quoted_piece, quoted_shape, string_piece, comment_piece, opening_piece, slash_piece, star_piece, is_dash_comment, line_piece, front}
 use Rattle.sql_lex.proofs.Runs.{run_again}
-use Rattle.rule_read.specs.Tokens.{is_name_text}
+use Rattle.sql_lex.specs.Strings.{string_meaning}
+use Rattle.rule_read.specs.Tokens.{is_name_text, is_digits}
+use Rattle.rule_read.proofs.StringTexts.{EndsWith, ends_with, string_is_text}
 
 -- what n bytes at the front of these are as a token of the kind
 abbrev pub has_kind : TokenKind → ℕ → List ℕ → Bool
 has_kind Word n bs = is_name_text (take n bs)
-has_kind Number n bs = list_all is_ascii_digit (take n bs)
+has_kind Number n bs = is_digits (take n bs)
 has_kind Quoted n bs = is_name_text (take (n - 2) (drop 1 bs))
-has_kind Str n bs = true
+has_kind Str n bs = is_utf8 (string_meaning (take n bs))
 has_kind Sign n bs = true
 
 abbrev pub has_shape : Shape → ℕ → List ℕ → Bool
@@ -73,7 +76,7 @@ unfolding word_piece
 word_has bs h = go (list_all is_ascii_digit (run bs)) refl
   where
     go : (c : Bool) → list_all is_ascii_digit (run bs) ≡ c → has_kind (cond c Number Word) (length (run bs)) bs ≡ true
-    go true e = rw (run_again bs) e
+    go true e = rw (run_again bs) (both (nat_lt 0 (length (run bs))) (list_all is_ascii_digit (run bs)) h e)
     go false e = rw (run_again bs) (run_is_name bs h)
 
 name_has : (b : ℕ) (bs : List ℕ) (n : ℕ) (c : Bool) → (nat_lt 0 (length (run bs)) && n == length (run bs) + 1) ≡ c → Has (b ∷ bs) (piece (cond c (Lexeme Quoted) Stray) (1 + n))
@@ -107,9 +110,16 @@ star_has : (inside : Bool) (l bs : List ℕ) → Has l (star_piece inside bs)
 unfolding star_piece
 star_has inside l bs = at_cond (Has l) (inside && starts_with_2 42 47 bs) _ _ (λ h. refl) (λ h. refl)
 
-pub front_has : (inside : Bool) (b : ℕ) (bs : List ℕ) → Has (b ∷ bs) (front inside b bs)
+string_has : (q : ℕ) (bs : List ℕ) (o : Option ℕ) → q < 128 → IsUtf8 (q ∷ bs) → EndsWith q bs o → Has (q ∷ bs) (ended (Lexeme Str) 1 (length bs) o)
+string_has q bs None s u h = refl
+string_has q bs (Some n) s u h = string_is_text q bs n s u h
+
+quote_is_small : (b : ℕ) → (b == 39 || b == 34) ≡ true → b < 128
+quote_is_small b h = grind (arith, nat_tests)
+
+pub front_has : (inside : Bool) (b : ℕ) (bs : List ℕ) → (b < 128 → IsUtf8 (b ∷ bs)) → Has (b ∷ bs) (front inside b bs)
 unfolding front quoted_piece string_piece line_piece
-front_has inside b bs =
+front_has inside b bs u =
     let P : Piece → Type 0 = Has (b ∷ bs) in
     at_cond P (is_blank b) _ _ (λ h. refl) (λ h0.
     at_cond P (b == 35 || is_dash_comment (b ∷ bs)) _ _ (λ h. refl) (λ h1.
@@ -117,5 +127,5 @@ front_has inside b bs =
     at_cond P (b == 42) _ _ (λ h. star_has inside (b ∷ bs) (b ∷ bs)) (λ h3.
     at_cond P (is_name_byte b) _ _ (λ h. word_has (b ∷ bs) (some_run b bs h)) (λ h4.
     at_cond P (b == 96) _ _ (λ h. quoted_has b bs (reach BackQuote bs 0)) (λ h5.
-    at_cond P (b == 39 || b == 34) _ _ (λ h. plain_ended (b ∷ bs) (Lexeme Str) 1 (length bs) (reach (Quote b) bs 0) (λ n. refl)) (λ h6.
+    at_cond P (b == 39 || b == 34) _ _ (λ h. let s = quote_is_small b h in string_has b bs (reach (Quote b) bs 0) s (u s) (ends_with b bs 0)) (λ h6.
     at_cond P (is_sign b) _ _ (λ h. refl) (λ h7. refl))))))))

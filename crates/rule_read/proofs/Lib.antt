@@ -1,3 +1,4 @@
 pub mod NameTexts
 pub mod FrontKinds
+pub mod StringTexts
 pub mod Made

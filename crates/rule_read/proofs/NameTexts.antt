@@ -1,8 +1,8 @@
 -- The characters of names are text.
-use Rattle.std.proofs.Common.{◌≡◌, ℕ, zero, suc, ◌<◌, ◌≤◌, Bool, true, false, ◌&&◌, ◌||◌, List, [], ◌∷◌, length, nat_lt, refl, arith}
+use Rattle.std.proofs.Common.{◌≡◌, ℕ, zero, suc, ◌<◌, true, List, [], ◌∷◌, length, nat_lt, arith}
 use Rattle.std.specs.List.{list_all}
-use Rattle.std.specs.Str.{IsAscii, IsUtf8}
-use Rattle.std.proofs.lemmas.Str.{IsUtf8-from_ascii}
+use Rattle.std.specs.Str.{IsAscii, IsUtf8, is_utf8}
+use Rattle.std.proofs.lemmas.Str.{IsUtf8-from_ascii, IsUtf8-from_is_utf8}
 use Rattle.std.proofs.lemmas.Bool.Decides.{nat_tests}
 use Rattle.grammar_data.proofs.Bits.{and_true}
 use Rattle.dd_names.specs.Names.{is_name_byte}
@@ -18,3 +18,6 @@ name_is_ascii (b ∷ bs) h (suc i) = name_is_ascii bs (and_true (is_name_byte b)
 
 pub name_is_text : (w : List ℕ) → is_name_text w ≡ true → IsUtf8 w
 name_is_text w h = IsUtf8-from_ascii w (name_is_ascii w (and_true (nat_lt 0 (length w)) (list_all is_name_byte w) h).1)
+
+pub text_is_utf8 : (w : List ℕ) → is_utf8 w ≡ true → IsUtf8 w
+text_is_utf8 w h = IsUtf8-from_is_utf8 w h

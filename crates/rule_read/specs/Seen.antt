@@ -1,5 +1,5 @@
 -- The tokens that are still to be read, and where reading stopped.
-use Rattle.std.specs.Prelude.{◌++◌, [], ◌∷◌, Bool, true, false, ℕ, List, map, Option, Some, None, if◌then◌else◌}
+use Rattle.std.specs.Prelude.{◌++◌, [], ◌∷◌, true, false, List, map, Option, Some, None, if◌then◌else◌}
 use Rattle.grammar_data.specs.Lexemes.{Lexeme, word, number, quoted, string, sign, broken}
 use Rattle.grammar_data.specs.Reading.{Stop}
 use Rattle.sql_lex.specs.Strings.{string_meaning}

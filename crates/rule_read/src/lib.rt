@@ -15,7 +15,7 @@ pub use fault::ReadFault;
 pub use input::Input;
 pub use number::number_of;
 pub use reading::{
-    at_name, at_number, at_sign, at_string, at_word, digits, exactly, name, sign, skip_word, width,
-    word,
+    at_name, at_number, at_sign, at_string, at_word, digits, exactly, name, sign, skip_word,
+    string, width, word,
 };
 pub use rule::{Item, Rule, listed, many};

@@ -1,8 +1,8 @@
-ghost use Rattle.std.specs.Prelude.{◌≡◌, true, [], ◌∷◌, MatchOption, length};
+ghost use Rattle.std.specs.Prelude.{◌≡◌, true, [], ◌∷◌, MatchOption, IfSome, length};
 ghost use Rattle.sql_lex.specs.Lexing.{tokens_of};
 ghost use Rattle.sql_lex.specs.Texts.{lexeme_of, lexemes};
 ghost use Rattle.rule_read.specs.Seen.{seen, content_seen};
-ghost use Rattle.rule_read.specs.Tokens.{IsTokenOf, is_name_text};
+ghost use Rattle.rule_read.specs.Tokens.{IsTokenOf, is_name_text, is_of_kind};
 
 use crate::content::Content;
 use crate::input::Input;
@@ -38,7 +38,8 @@ fn name_text(bytes: &[u8]) -> &str
 /// A token with its content.
 fn content_of(text: &[u8], token: Token) -> Content<'_>
     requires { IsTokenOf text.now token }
-    ensures { content_seen result ≡ lexeme_of text.now token }
+    ensures seen { content_seen result ≡ lexeme_of text.now token }
+    ensures kind { is_of_kind (content_seen result) ≡ true }
 {
     let from = token.from;
     let to = token.to;
@@ -54,7 +55,8 @@ fn content_of(text: &[u8], token: Token) -> Content<'_>
 /// The next token, and those after it.
 #[tactic(auto, unfolding(crate::specs::Seen::seen))]
 pub fn next(input: Input<'_>) -> Option<(Content<'_>, Input<'_>)>
-    ensures { MatchOption result (seen input.entry ≡ []) (λ x. seen input.entry ≡ content_seen x.0 ∷ seen x.1) }
+    ensures seen { MatchOption result (seen input.entry ≡ []) (λ x. seen input.entry ≡ content_seen x.0 ∷ seen x.1) }
+    ensures kind { IfSome result (λ x. is_of_kind (content_seen x.0) ≡ true) }
 {
     match input.tokens {
         [] => {

@@ -1,19 +1,22 @@
-ghost use Rattle.std.specs.Prelude.{◌≡◌, ◌∷◌, [], true, false, MatchOption};
-ghost use Rattle.grammar_data.specs.Lexemes.{number, keyword, mark, name, amount, width, text, exactly, takes, content, begins};
+ghost use Rattle.std.specs.Prelude.{◌≡◌, ◌∷◌, [], true, false, MatchOption, IfOk};
+ghost use Rattle.grammar_data.specs.Lexemes.{number, string, keyword, mark, name, amount, width, text, exactly, takes, content, begins};
 ghost use Rattle.grammar_data.specs.Grammar.{one, if_next};
 ghost use Rattle.grammar_data.specs.Reading.{read};
 ghost use Rattle.grammar_data.specs.Rules.{word_of, sign_of, string_of};
 ghost use Rattle.grammar_data.specs.Answers.{Gives};
+ghost use Rattle.std.specs.Str.{is_utf8};
+ghost use Rattle.sql_lex.specs.Strings.{string_meaning};
 ghost use Rattle.rule_read.specs.Seen.{seen, content_seen, stop_of};
+ghost use Rattle.rule_read.specs.Tokens.{is_digits};
 
 use crate::content::Content;
 use crate::fault::ReadFault;
 use crate::input::Input;
 use crate::next::next;
 use crate::number::is_width;
-use dd_names::{Name, is_reserved};
-use sql_lex::means;
-use std::alloc::Global;
+use dd_names::{Name, Text, is_reserved};
+use sql_lex::{meaning, means};
+use std::alloc::{AllocError, Global};
 
 /// The greatest number of characters of a word of the grammar, and of a name.
 const MAX_CHARACTERS: usize = 64;
@@ -203,6 +206,47 @@ pub fn name(alloc: Global, input: Input<'_>) -> Result<(Name, Input<'_>), ReadFa
     }
 }
 
+/// What a string means, which is given with its quotes.
+#[tactic(auto, using(crate::proofs::NameTexts::text_is_utf8))]
+fn text_meant(alloc: Global, string: &[u8]) -> Result<Text, AllocError>
+    requires { is_utf8 (string_meaning string.now) ≡ true }
+    ensures { IfOk result (λ text. text ≡ string_meaning string.now) }
+{
+    match String::from_utf8(meaning(alloc, string)?.into_vec()) {
+        Ok(text) => Ok(Text::from_string(text)),
+        Err(_) => unreachable!(),
+    }
+}
+
+/// A string as it is written, with its quotes.
+#[tactic(auto, unfolding(grammar_data::specs::Lexemes::takes))]
+fn string_of(token: Content<'_>) -> Option<&[u8]>
+    ensures { MatchOption result (takes text (content_seen token.entry) ≡ false)
+        (λ w. content_seen token.entry ≡ string (string_meaning w.now)) }
+{
+    match token {
+        Content::Text(string) => Some(string),
+        _ => None,
+    }
+}
+
+/// Reads a string, as the text that it means.
+#[tactic(auto, unfolding(grammar_data::specs::Lexemes::takes, grammar_data::specs::Lexemes::is_long))]
+pub fn string(alloc: Global, input: Input<'_>) -> Result<(Text, Input<'_>), ReadFault<'_>>
+    ensures { Gives (λ x. (x.0, seen x.1)) stop_of result (read (one text) (seen input.entry)) }
+{
+    let Some((token, rest)) = next(input) else {
+        return Err(ReadFault::Syntax { rest: input });
+    };
+    let Some(written) = string_of(token) else {
+        return Err(ReadFault::Syntax { rest: input });
+    };
+    match text_meant(alloc, written) {
+        Ok(text) => Ok((text, rest)),
+        Err(_) => Err(ReadFault::Memory),
+    }
+}
+
 /// The digits of a number.
 #[tactic(auto, unfolding(grammar_data::specs::Lexemes::takes, grammar_data::specs::Lexemes::is_long))]
 fn digits_of(token: Content<'_>) -> Option<&[u8]>
@@ -215,10 +259,11 @@ fn digits_of(token: Content<'_>) -> Option<&[u8]>
     }
 }
 
-/// Reads decimal digits.
+/// Reads decimal digits, of which there is one or more.
 #[tactic(auto, unfolding(grammar_data::specs::Lexemes::takes, grammar_data::specs::Lexemes::is_long))]
 pub fn digits(input: Input<'_>) -> Result<(&[u8], Input<'_>), ReadFault<'_>>
-    ensures { Gives (λ x. (x.0.now, seen x.1)) stop_of result (read (one amount) (seen input.entry)) }
+    ensures digits { IfOk result (λ x. is_digits x.0.now ≡ true) }
+    ensures read { Gives (λ x. (x.0.now, seen x.1)) stop_of result (read (one amount) (seen input.entry)) }
 {
     let Some((token, rest)) = next(input) else {
         return Err(ReadFault::Syntax { rest: input });

@@ -4,7 +4,7 @@ ghost use Rattle.grammar_data.specs.Grammar.{one};
 
 use crate::{
     Input, Item, ReadFault, Rule, at_name, digits, exactly, listed, many, name, number_of, sign,
-    skip_word, width, word,
+    skip_word, string, width, word,
 };
 use dd_names::Name;
 use sql_lex::tokens_before;
@@ -91,5 +91,21 @@ fn numbers_are_read_as_far_as_they_go(rt: HostRuntime) -> Result<(), Fail> {
         values(Input::of(text, &lexed)),
         Some((u128::MAX, 255, true))
     );
+    Ok(())
+}
+
+/// Whether a string that means this text is at the front.
+fn means(alloc: Global, input: Input<'_>, expected: &str) -> bool {
+    match string(alloc, input) {
+        Ok((text, _)) => text.as_str() == expected,
+        Err(_) => false,
+    }
+}
+
+#[test]
+fn strings_are_read_as_they_are_meant(rt: HostRuntime) -> Result<(), Fail> {
+    let text = r#""é\\""'\%\n\é" b"#;
+    let lexed = tokens_before(rt.alloc(), text)?;
+    assert!(rt; means(rt.alloc(), Input::of(text, &lexed), "é\\\"'\\%\né"));
     Ok(())
 }

@@ -1,4 +1,4 @@
-use Rattle.std.proofs.Common.{◌≡◌, rules, true, List, [], ◌∷◌, ◌++◌, ◌&&◌, sym, ◌∙◌}
+use Rattle.std.proofs.Common.{◌≡◌, rules, true, [], ◌∷◌, ◌++◌, ◌&&◌, sym, ◌∙◌}
 use Rattle.grammar_data.specs.Grammar.{Grammar, many}
 use Rattle.grammar_data.specs.Rules.{sign_of, listed, ◌⊳◌}
 use Rattle.grammar_data.specs.Reading.{read, first}

@@ -1,4 +1,4 @@
-use Rattle.std.proofs.Common.{◌≡◌, rules, true, List, [], ◌∷◌, ◌++◌, sym, ◌∙◌}
+use Rattle.std.proofs.Common.{◌≡◌, rules, [], ◌∷◌, ◌++◌, sym, ◌∙◌}
 use Rattle.grammar_data.specs.Grammar.{many}
 use Rattle.grammar_data.specs.Reading.{read}
 use Rattle.grammar_data.proofs.Loops.{fewer, goes_on}

@@ -8,7 +8,7 @@ use Rattle.rule_read.proofs.Made.{tokens_are_of_text}
 use Rattle.rule_read.proofs.input.Input.of.Goals as goal
 
 pub invariant_of-result : goal.invariant_of-result
-invariant_of-result c = record { of_text = rw (c.as_bytes.ensures.value, c.as_slice.ensures) (tokens_are_of_text c.args.text.now (c.args.lexed.now.tokens, c.args.lexed.now.bad) c.requires) }
+invariant_of-result c = record { of_text = rw (c.as_bytes.ensures.value, c.as_slice.ensures) (tokens_are_of_text c.args.text.now (c.args.lexed.now.tokens, c.args.lexed.now.bad) c.utf8.text c.requires) }
 
 broken_is : (o : Option ℕ) → (if is_some o then broken ∷ [] else []) ≡ broken_if o
 broken_is None = refl
