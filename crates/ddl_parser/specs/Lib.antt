@@ -1,0 +1,4 @@
+pub mod Subrules
+pub mod Decided
+pub mod Parsing
+pub mod Bodies

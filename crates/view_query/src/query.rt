@@ -1,0 +1,48 @@
+ghost use Rattle.std.specs.Prelude.{◌≡◌, ◌≤◌, List, length, drop, IfOk, None};
+ghost use Rattle.grammar_data.specs.Lexemes.{Lexeme};
+ghost use Rattle.grammar_data.specs.Grammar.{Says};
+ghost use Rattle.grammar_data.specs.Reading.{read};
+ghost use Rattle.grammar_data.specs.Answers.{Gives};
+ghost use Rattle.sql_lex.specs.Lexing.{tokens_of};
+ghost use Rattle.sql_lex.specs.Texts.{lexemes};
+ghost use Rattle.ddl_words.specs.GrammarViews.{select};
+ghost use Rattle.rule_read.specs.Seen.{seen, stop_of};
+ghost use Rattle.part_parser.specs.Faults.{IsFront};
+
+use crate::items::ItemList;
+use crate::sources::SourceList;
+use ddl_words::Select;
+use part_parser::{ParseFault, from_token, told};
+use rule_read::{Input, ReadFault, listed, word};
+use sql_lex::Token;
+use std::alloc::Global;
+
+/// `SELECT item {, item} FROM source {, source}`
+#[tactic(auto, unfolding(ddl_words::specs::GrammarViews::select))]
+pub fn select_words(alloc: Global, input: Input<'_>) -> Result<(Select, Input<'_>), ReadFault<'_>>
+    ensures { Gives (λ x. (x.0, seen x.1)) stop_of result (read select (seen input.entry)) }
+{
+    let rest = word(input, "SELECT")?;
+    let (items, rest) = listed::<ItemList>(alloc, rest)?;
+    let rest = word(rest, "FROM")?;
+    let (sources, rest) = listed::<SourceList>(alloc, rest)?;
+    Ok((Select { items, sources }, rest))
+}
+
+/// The query that the tokens of a text are from one of them on, as far as the grammar goes, or the first fault.
+pub fn select(
+    alloc: Global,
+    tokens: &[Token],
+    text: &str,
+    from: usize,
+) -> Result<Select, ParseFault>
+    requires tokens { (tokens.now, None) ≡ tokens_of text.now }
+    requires within { from ≤ length tokens.now }
+    ensures exact { IsFront text.now result (read select (drop from (lexemes text.now))) }
+    ensures says { IfOk result (λ query. (after : List Lexeme) × Says select (drop from (lexemes text.now)) after query) }
+{
+    match select_words(alloc, from_token(text, tokens, from)) {
+        Ok((query, _)) => Ok(query),
+        Err(fault) => Err(told(alloc, text, tokens, None, fault)),
+    }
+}
