@@ -1,0 +1,4 @@
+pub mod Yields
+pub mod YieldedParts
+pub mod YieldedActions
+pub mod FineTokens

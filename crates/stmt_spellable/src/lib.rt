@@ -1,0 +1,8 @@
+//! Each statement that a text in the grammar reads as has a canonical text.
+#![tactic(auto)]
+
+mod laws;
+#[cfg(test)]
+mod tests;
+
+pub use laws::what_is_read_is_spellable;

@@ -1,0 +1,10 @@
+pub mod Added
+pub mod Spells
+pub mod SpelledParts
+pub mod SpelledColumns
+pub mod SpelledKeys
+pub mod SpelledActions
+pub mod SpelledViews
+pub mod SpelledStatements
+pub mod ReadBack
+pub mod ReadNames
