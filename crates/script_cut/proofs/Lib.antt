@@ -1,0 +1,4 @@
+pub mod Edges
+pub mod NameTexts
+pub mod Moved
+pub mod Judged
