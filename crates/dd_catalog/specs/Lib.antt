@@ -1,0 +1,10 @@
+pub mod Asked
+pub mod Catalog
+pub mod Follow
+pub mod Kinds
+pub mod Looked
+pub mod LoopLaws
+pub mod Sights
+pub mod Valid
+pub mod WalkLaws
+pub mod Walks

@@ -1,0 +1,4 @@
+pub mod Columns
+pub mod ForeignKeys
+pub mod Keys
+pub mod Words

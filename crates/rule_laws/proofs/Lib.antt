@@ -1,0 +1,9 @@
+pub mod ColumnsFit
+pub mod FreeNames
+pub mod IndexesFit
+pub mod KeysFit
+pub mod MadeNames
+pub mod Numbers
+pub mod ParentSpelling
+pub mod Spelled
+pub mod WellSpelled

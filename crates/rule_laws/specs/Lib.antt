@@ -1,0 +1,4 @@
+pub mod Indexes
+pub mod MadeNames
+pub mod Parents
+pub mod Taken

@@ -1,0 +1,19 @@
+//! The rules of one column, one key and one foreign key: each is taken as a definition, or refused with the first of its faults.
+#![tactic(auto)]
+
+mod checked;
+mod columns;
+mod defaults;
+mod foreign_keys;
+mod index_names;
+mod keys;
+mod kinds;
+mod parents;
+mod refusals;
+#[cfg(test)]
+mod tests;
+
+pub use checked::Checked;
+pub use columns::check_column;
+pub use foreign_keys::check_fk;
+pub use keys::check_key;
