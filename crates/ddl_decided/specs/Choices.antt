@@ -1,0 +1,51 @@
+-- What a statement comes to where it isn't refused, and what its changes make of a catalog.
+use Rattle.std.specs.Prelude.{ℕ, List, [], ◌∷◌}
+use Rattle.std.specs.FinMap as finite_map
+use Rattle.dd_names.specs.declared.object_name.ObjectKey.{ObjectKey}
+use Rattle.dd_names.specs.declared.object_name.ObjectKey.TheVariants as keys
+use Rattle.dd_objects.specs.declared.listing.Listing.{Listing}
+use Rattle.dd_definitions.specs.declared.parts.TableParts.{TableParts}
+use Rattle.dd_definitions.specs.declared.view_parts.ViewParts.{ViewParts}
+use Rattle.dd_catalog.specs.Catalog.{Catalog}
+use Rattle.dd_catalog.specs.Catalog as placed
+use Rattle.ddl_words.specs.declared.session.SessionState.{SessionState}
+
+-- What stands at a key behind a statement: nothing, a schema, a table with a new tablespace or with the one that it had, or a
+-- view.
+pub data After : Type 0 where
+  Gone : After
+  Schema : After
+  FreshTable : TableParts → After
+  KeptTable : ℕ → TableParts → After
+  View : ViewParts → After
+
+pub record Change : Type 0 where
+  pub key : ObjectKey
+  pub after : After
+
+abbrev pub change : ObjectKey → After → Change
+change key after = record { key = key; after = after }
+
+-- The statement changes nothing though it is done, it makes these changes and leaves this session, or it lists something.
+pub data Choice : Type 0 where
+  Same : Choice
+  Changes : List Change → SessionState → Choice
+  Lists : Listing → Choice
+
+-- ## The next catalog
+
+-- one change; a table with a new tablespace has this number
+abbrev pub applied_at : ℕ → ObjectKey → After → Catalog → Catalog
+applied_at space (keys.Schema name) Gone cat = record cat { schemas = finite_map.remove cat.schemas name }
+applied_at space (keys.Schema name) after cat = record cat { schemas = finite_map.insert cat.schemas name tt }
+applied_at space (keys.Object name) Gone cat = record cat { objects = finite_map.remove cat.objects name }
+applied_at space (keys.Object name) Schema cat = cat
+applied_at space (keys.Object name) (FreshTable parts) cat = record cat { objects = finite_map.insert cat.objects name (placed.Table space parts) }
+applied_at space (keys.Object name) (KeptTable kept parts) cat = record cat { objects = finite_map.insert cat.objects name (placed.Table kept parts) }
+applied_at space (keys.Object name) (View parts) cat = record cat { objects = finite_map.insert cat.objects name (placed.View parts) }
+applied_at space key after cat = cat
+
+-- the changes, one after another
+abbrev pub applied : ℕ → List Change → Catalog → Catalog
+applied space [] cat = cat
+applied space (c ∷ changes) cat = applied space changes (applied_at space c.key c.after cat)

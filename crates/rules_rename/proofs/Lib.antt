@@ -1,0 +1,3 @@
+mod ForeignKeys
+mod Overlays
+mod Leaves

@@ -1,0 +1,4 @@
+pub mod Listings
+pub mod Drops
+pub mod Schemas
+pub mod Sessions

@@ -1,0 +1,73 @@
+// SHOW DATABASES (MySQL 8.0 Reference Manual, 13.7.7).
+ghost use Rattle.std.specs.Prelude.{◌≡◌, IfOk, map};
+ghost use Rattle.dd_catalog.specs.Sights.{sight};
+ghost use Rattle.dd_catalog.specs.Walks.{run};
+ghost use Rattle.dd_catalog.specs.Follow.{sights};
+ghost use Rattle.ddl_decided.specs.Decided.{found_of, AreBefore};
+ghost use Rattle.rules_named.specs.Answers.{Decides};
+ghost use Rattle.rules_schema.specs.Listings.{names_seen, row_of, names_listed, show_databases};
+
+use dd_catalog::{Lookup, Object, Stop};
+use dd_names::{List, Name, ObjectKey, Text};
+use dd_objects::{Cell, ListRow, Listing};
+use ddl_decided::Decided;
+use rules_named::{decided, known_at};
+use std::alloc::{AllocError, Global};
+
+/// What SHOW DATABASES comes to: the schemas in byte order.
+pub fn show_databases<L: Lookup>(alloc: Global, look: &L) -> Result<Decided, AllocError>
+    ensures exact { IfOk result (λ d. found_of d ≡ run (sights (L.known look.now)) show_databases) }
+    ensures before { IfOk result (λ d. AreBefore (L.known look.now) d) }
+{
+    decided(schemas_shown(alloc, look))
+}
+
+#[tactic(auto, using(dd_catalog::specs::WalkLaws::run_bind), unfolding(crate::specs::Listings::show_databases))]
+fn schemas_shown<L: Lookup>(alloc: Global, look: &L) -> Result<Decided, Stop>
+    ensures exact { Decides result (run (sights (L.known look.now)) show_databases) }
+    ensures before { IfOk result (λ d. AreBefore (L.known look.now) d) }
+{
+    let object = known_at(look, &ObjectKey::Schemas)?;
+    let header = Text::of(alloc, "Database")?;
+    Ok(Decided::Rows(names_listed(alloc, header, names_seen(object))?))
+}
+
+/// The names in a list that stands at a key.
+fn names_seen(object: &Object) -> &[Name]
+    ensures { result.now ≡ names_seen (sight object.now) }
+{
+    match object {
+        Object::Schemas(names) => names.as_slice(),
+        Object::Objects(names) => names.as_slice(),
+        _ => &[],
+    }
+}
+
+fn names_listed(alloc: Global, header: Text, names: &[Name]) -> Result<Listing, AllocError>
+    ensures { IfOk result (λ listing. listing ≡ names_listed header names.now) }
+{
+    let mut titles = List::new(alloc);
+    titles.push(header)?;
+    Ok(Listing {
+        header: titles,
+        rows: rows_of(alloc, names)?,
+    })
+}
+
+fn rows_of(alloc: Global, names: &[Name]) -> Result<List<ListRow>, AllocError>
+    ensures { IfOk result (λ rows. rows ≡ map row_of names.now) }
+{
+    let mut rows = List::new(alloc);
+    'names: for name in names {
+        rows.push(row_of(alloc, name)?)?;
+    }
+    Ok(rows)
+}
+
+fn row_of(alloc: Global, name: &Name) -> Result<ListRow, AllocError>
+    ensures { IfOk result (λ row. row ≡ row_of name.now) }
+{
+    let mut row = List::new(alloc);
+    row.push(Cell::Value(name.to_text()?))?;
+    Ok(row)
+}

@@ -1,0 +1,34 @@
+// SET (MySQL 8.0 Reference Manual, 5.1.8).
+ghost use Rattle.std.specs.Prelude.{◌≡◌, IfOk};
+ghost use Rattle.dd_catalog.specs.Walks.{run};
+ghost use Rattle.dd_catalog.specs.Follow.{sights};
+ghost use Rattle.ddl_decided.specs.Decided.{found_of, AreBefore};
+ghost use Rattle.rules_schema.specs.Sessions.{set_tries};
+
+use dd_catalog::Lookup;
+use dd_names::{List, TryCopy};
+use ddl_decided::{Decided, Edits};
+use ddl_words::SessionState;
+use std::alloc::{AllocError, Global};
+
+/// What SET lock_wait_timeout comes to; it is never refused.
+#[tactic(auto, unfolding(crate::specs::Sessions::set_tries))]
+pub fn set_tries<L: Lookup>(
+    alloc: Global,
+    session: &SessionState,
+    value: u128,
+    look: &L,
+) -> Result<Decided, AllocError>
+    ensures exact { IfOk result (λ d. found_of d ≡ run (sights (L.known look.now)) (set_tries session.now value)) }
+    ensures before { IfOk result (λ d. AreBefore (L.known look.now) d) }
+{
+    let session = SessionState {
+        number: session.number,
+        current: session.current.copy()?,
+        tries: value.min(31_536_000).max(1) as u32,
+    };
+    Ok(Decided::Edits(Edits {
+        puts: List::new(alloc),
+        session,
+    }))
+}

@@ -1,0 +1,2 @@
+//! What statements on schemas and tables change, list, or are refused for.
+#![tactic(auto)]
