@@ -4,7 +4,7 @@ use Rattle.std.specs.FinMap as finite_map
 use Rattle.dd_names.specs.Reserved.{is_system_schema}
 use Rattle.dd_errors.specs.Errors.{ErrorValue}
 use Rattle.ddl_words.specs.declared.statement.Statement.{Statement}
-use Rattle.ddl_words.specs.declared.statement.Statement.TheVariants.{CreateDatabase, ShowDatabases}
+use Rattle.ddl_words.specs.declared.statement.Statement.TheVariants.{CreateDatabase, ShowDatabases, Bad}
 use Rattle.dd_objects.specs.declared.listing.Cell.{Cell}
 use Rattle.dd_objects.specs.declared.listing.Cell.TheVariants.{Value}
 use Rattle.dd_objects.specs.declared.listing.Listing.{Listing}
@@ -53,10 +53,12 @@ databases cat = record { header = codes "Database" ∷ []; rows = map row_of (fi
 abbrev pub outcome : Catalog → Session → Statement → Outcome
 outcome cat ses (CreateDatabase if_not_exists name) = create_database cat ses if_not_exists name
 outcome cat ses ShowDatabases = Listed (databases cat)
+outcome cat ses (Bad error) = Refused error
 outcome cat ses _ = NotRun
 
--- a statement of a kind that is run: CREATE DATABASE and SHOW DATABASES
+-- a statement of a kind that is run: CREATE DATABASE, SHOW DATABASES, and a text outside the grammar
 abbrev pub is_run : Statement → Bool
 is_run (CreateDatabase if_not_exists name) = true
 is_run ShowDatabases = true
+is_run (Bad error) = true
 is_run _ = false

@@ -1,8 +1,8 @@
 // What a statement is answered over a set of schemas, and what it makes of them.
 ghost use Rattle.std.specs.Prelude.{◌≡◌, ◌∷◌, [], IfOk, map, codes, true};
 ghost use Rattle.std.specs.FinMap as finite_map;
-ghost use Rattle.dd_engine.specs.Catalog.{new_session, of_schemas};
-ghost use Rattle.dd_engine.specs.Outcome.{outcome, is_run, row_of, schema_exists};
+ghost use Rattle.dd_engine.specs.Catalog.{Catalog, new_session, of_schemas};
+ghost use Rattle.dd_engine.specs.Outcome.{Refused, outcome, is_run, row_of, schema_exists};
 ghost use Rattle.dd_engine.specs.History.{Answers, next_catalog};
 
 use crate::history::Answer;
@@ -12,6 +12,16 @@ use dd_names::{List, Name, Text, TryCopy, is_system_schema};
 use dd_objects::{Cell, ListRow, Listing};
 use ddl_words::Statement;
 use std::alloc::{AllocError, Global};
+
+/// Whether a statement is of a kind that is run: CREATE DATABASE, SHOW DATABASES, or a text outside the grammar.
+pub fn is_run(statement: &Statement) -> bool
+    ensures { result ≡ is_run statement.now }
+{
+    match statement {
+        Statement::CreateDatabase { .. } | Statement::ShowDatabases | Statement::Bad(_) => true,
+        _ => false,
+    }
+}
 
 /// Answers a statement, and leaves the schemas as the answer says.
 pub fn answer_to(alloc: Global, schemas: &mut NameSet, statement: &Statement) -> Answer
@@ -25,7 +35,18 @@ pub fn answer_to(alloc: Global, schemas: &mut NameSet, statement: &Statement) ->
             name,
         } => create_database(alloc, schemas, *if_not_exists, name),
         Statement::ShowDatabases => show_databases(alloc, schemas),
+        Statement::Bad(error) => refused(error),
         _ => unreachable!(),
+    }
+}
+
+fn refused(error: &SqlError) -> Answer
+    ensures answers { Answers (Refused error.now) result }
+    ensures next { (cat : Catalog) → next_catalog (Refused error.now) result cat ≡ cat }
+{
+    match error.copy() {
+        Ok(error) => Answer::Error(error),
+        Err(_) => Answer::Memory,
     }
 }
 

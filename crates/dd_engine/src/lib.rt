@@ -8,5 +8,6 @@ mod plain_engine;
 #[cfg(test)]
 mod tests;
 
+pub use answer_to::is_run;
 pub use history::{Answer, Entry, History};
 pub use plain_engine::PlainEngine;

@@ -5,7 +5,7 @@ use Rattle.std.proofs.lemmas.List.{append-nil, drop_more, drop_all}
 use Rattle.dd_engine.specs.declared.history.Entry.{Entry}
 use Rattle.dd_engine.specs.History.{part}
 use Rattle.ddrun.specs.declared.print.PrintFault.{PrintFault}
-use Rattle.ddrun.specs.declared.script.Script.{Script}
+use Rattle.script_read.specs.declared.script.Script.{Script}
 use Rattle.ddrun.specs.Printed.{entry_text, answers_text, session_text, printed_from}
 use Rattle.ddrun.specs.Writes.{Writes}
 

@@ -7,7 +7,7 @@ use Rattle.dd_engine.specs.declared.history.Entry.{Entry}
 use Rattle.dd_engine.specs.Catalog.{empty_catalog}
 use Rattle.dd_engine.specs.Engine.{ArePlainFrom}
 use Rattle.dd_engine.specs.History.{part, LegalHistory, NumberedFrom}
-use Rattle.ddrun.specs.declared.script.Script.{Script}
+use Rattle.script_read.specs.declared.script.Script.{Script}
 use Rattle.ddrun.specs.Ending.{statement_of_entry}
 use Rattle.ddrun.specs.Headline.{IsHistoryOf, AllAnswered, FirstAnswered, answered}
 

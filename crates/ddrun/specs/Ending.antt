@@ -1,18 +1,21 @@
 -- How the parts of a run end.
-use Rattle.std.specs.Prelude.{ℕ, ◌≡◌, ◌≤◌, true, List, [], ◌∷◌, length, Option, Result, ⊤}
+use Rattle.std.specs.Prelude.{ℕ, ◌≡◌, ◌≤◌, true, List, [], ◌∷◌, length, Option, Some, Result, ⊤}
 use Rattle.std.specs.List.{AllByRecursion}
 use Rattle.std.specs.declared.result.Result.TheVariants as results
 use Rattle.edge_io.specs.Causes.{Rose}
 use Rattle.ddl_words.specs.declared.statement.Statement.{Statement}
 use Rattle.dd_engine.specs.Outcome.{is_run}
 use Rattle.dd_engine.specs.declared.history.Entry.{Entry}
-use Rattle.ddrun.specs.declared.script.Script.{Script}
+use Rattle.script_cut.specs.declared.fault.ScriptFault.{ScriptFault}
+use Rattle.script_cut.specs.declared.fault.ScriptFault.TheVariants as faulty
+use Rattle.script_read.specs.declared.script.Script.{Script}
 use Rattle.ddrun.specs.declared.print.PrintFault.{PrintFault}
 use Rattle.ddrun.specs.declared.print.PrintFault.TheVariants as faults
 use Rattle.ddrun.specs.declared.status.Status.{Status}
-use Rattle.ddrun.specs.declared.status.Status.TheVariants.{Ok, Usage, Memory, ReadFault, WriteFault, NotBuilt}
-use Rattle.ddrun.specs.Headline.{IsHistoryOf, HasAnswers, HasOutput, HasNoScripts}
+use Rattle.ddrun.specs.declared.status.Status.TheVariants as ends
+use Rattle.ddrun.specs.Headline.{IsHistoryOf, HasAnswers, HasOutput, InputIs, IsUnbuilt}
 use Rattle.ddrun.specs.Printed.{printed}
+use Rattle.ddrun.specs.Unbuilt.{first_unbuilt}
 
 abbrev pub statement_of_entry : Entry → Statement
 statement_of_entry e = e.statement
@@ -32,23 +35,42 @@ AreRunnable [] = Unit {0}
 AreRunnable (script ∷ []) = IsRunnableScript script
 AreRunnable (a ∷ b ∷ scripts) = ⊥
 
--- why there are no sessions: the source has failed, there was no memory, or the input hasn't the form that is read
+-- why there are no sessions that are run: the source has failed, there was no memory, the input has a fault, or not all is run
 abbrev pub IsUnread : Status → Option (List ℕ) → ℕ → ℕ → Type 0
-IsUnread ReadFault input before now = Rose before now
-IsUnread Memory input before now = ⊤
-IsUnread NotBuilt input before now = HasNoScripts input
-IsUnread Ok input before now = ⊥
-IsUnread WriteFault input before now = ⊥
-IsUnread Usage input before now = ⊥
+IsUnread ends.ReadFault input before now = Rose before now
+IsUnread ends.Memory input before now = ⊤
+IsUnread (ends.BadScript fault) input before now = InputIs input (results.Err fault)
+IsUnread (ends.NotBuilt session number) input before now = IsUnbuilt input session number
+IsUnread ends.Ok input before now = ⊥
+IsUnread ends.WriteFault input before now = ⊥
+IsUnread ends.Usage input before now = ⊥
+
+-- the same of an input that reads so
+pub record IsUnbuiltIn (found : Result (List Script) ScriptFault) (session number : ℕ) : Type 0 where
+  pub sessions : List Script
+  pub read : found ≡ results.Ok sessions
+  pub unbuilt : first_unbuilt sessions ≡ Some (session, number)
+
+abbrev pub IsRefused : Status → Result (List Script) ScriptFault → Type 0
+IsRefused ends.Memory found = ⊤
+IsRefused (ends.BadScript fault) found = found ≡ results.Err fault
+IsRefused (ends.NotBuilt session number) found = IsUnbuiltIn found session number
+IsRefused ends.Ok found = ⊥
+IsRefused ends.Usage found = ⊥
+IsRefused ends.ReadFault found = ⊥
+IsRefused ends.WriteFault found = ⊥
+
+-- how a run ends whose input has this fault
+abbrev pub status_of_fault : ScriptFault → Status
+status_of_fault faulty.Memory = ends.Memory
+status_of_fault fault = ends.BadScript fault
 
 -- how a run ends that has its sessions
 abbrev pub IsEnding : Status → ℕ → ℕ → Type 0
-IsEnding Ok before now = ⊤
-IsEnding Memory before now = ⊤
-IsEnding WriteFault before now = Rose before now
-IsEnding ReadFault before now = ⊥
-IsEnding NotBuilt before now = ⊥
-IsEnding Usage before now = ⊥
+IsEnding ends.Ok before now = ⊤
+IsEnding ends.Memory before now = ⊤
+IsEnding ends.WriteFault before now = Rose before now
+IsEnding status before now = ⊥
 
 -- the run of these sessions, whose sink counts `before` faults and then `after`
 pub record IsRun (status : Status) (sessions : List Script) (history : List Entry) (held now : Option (List ℕ)) (before after : ℕ) : Type 0 where
@@ -59,6 +81,6 @@ pub record IsRun (status : Status) (sessions : List Script) (history : List Entr
 
 -- how a run ends by how its printing has ended
 abbrev pub status_of : Result (Unit {0}) PrintFault → Status
-status_of (results.Ok u) = Ok
-status_of (results.Err faults.WriteFault) = WriteFault
-status_of (results.Err faults.Memory) = Memory
+status_of (results.Ok u) = ends.Ok
+status_of (results.Err faults.WriteFault) = ends.WriteFault
+status_of (results.Err faults.Memory) = ends.Memory

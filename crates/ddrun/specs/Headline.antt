@@ -1,5 +1,6 @@
 -- What a run of the program is: its answers, its output, and why it ends as it does.
-use Rattle.std.specs.Prelude.{ℕ, ◌≡◌, ◌+◌, ◌<◌, List, [], ◌∷◌, map, take, length, Option, None, Some, ⊤}
+use Rattle.std.specs.Prelude.{ℕ, ◌≡◌, ◌+◌, ◌<◌, List, [], ◌∷◌, map, take, length, Option, None, Some, Result, ⊤}
+use Rattle.std.specs.declared.result.Result.TheVariants as results
 use Rattle.std.specs.List.{AllByRecursion}
 use Rattle.std.specs.Io.KnownBytes.{Keeps, Appends}
 use Rattle.edge_io.specs.Content.{AppendsPrefix}
@@ -7,10 +8,12 @@ use Rattle.ddl_words.specs.declared.statement.Statement.{Statement}
 use Rattle.dd_engine.specs.declared.history.Entry.{Entry}
 use Rattle.dd_engine.specs.Catalog.{empty_catalog}
 use Rattle.dd_engine.specs.History.{part, LegalHistory, IsNumbered}
-use Rattle.ddrun.specs.declared.script.Script.{Script}
+use Rattle.script_cut.specs.declared.fault.ScriptFault.{ScriptFault}
+use Rattle.script_read.specs.declared.script.Script.{Script}
+use Rattle.script_read.specs.Scripts.{scripts}
 use Rattle.ddrun.specs.declared.status.Status.{Status}
-use Rattle.ddrun.specs.declared.status.Status.TheVariants.{Ok, Usage, Memory, ReadFault, WriteFault, NotBuilt}
-use Rattle.ddrun.specs.Scripts.{scripts}
+use Rattle.ddrun.specs.declared.status.Status.TheVariants as ends
+use Rattle.ddrun.specs.Unbuilt.{first_unbuilt}
 use Rattle.ddrun.specs.Printed.{printed}
 
 -- ## The history
@@ -46,43 +49,52 @@ FirstAnswered sessions history = EachAnswered AreFirst 0 sessions history
 
 -- ## The clauses by the status
 
--- these are the sessions of the input, where the source tells it
-abbrev pub AreScripts : Option (List ℕ) → List Script → Type 0
-AreScripts None sessions = ⊤
-AreScripts (Some input) sessions = scripts input ≡ Some sessions
+-- the input reads so, where the source tells it
+abbrev pub InputIs : Option (List ℕ) → Result (List Script) ScriptFault → Type 0
+InputIs None found = ⊤
+InputIs (Some input) found = scripts input ≡ found
 
--- the input has no sessions, where the source tells it
-abbrev pub HasNoScripts : Option (List ℕ) → Type 0
-HasNoScripts None = ⊤
-HasNoScripts (Some input) = scripts input ≡ None
+-- the input has these sessions, which are run
+pub record AreRun (input : Option (List ℕ)) (sessions : List Script) : Type 0 where
+  pub read : InputIs input (results.Ok sessions)
+  pub built : first_unbuilt sessions ≡ None
 
--- which sessions the run has: those of the input, or none where it wasn't read or hasn't the form that is read
+-- the input has sessions, and here is the least that isn't run
+pub record IsUnbuilt (input : Option (List ℕ)) (session number : ℕ) : Type 0 where
+  pub found : List Script
+  pub read : InputIs input (results.Ok found)
+  pub unbuilt : first_unbuilt found ≡ Some (session, number)
+
+-- which sessions the run has: those of the input, or none where it wasn't read, has a fault, or isn't run
 abbrev pub HasSessions : Status → Option (List ℕ) → List Script → Type 0
-HasSessions Ok input sessions = AreScripts input sessions
-HasSessions WriteFault input sessions = AreScripts input sessions
-HasSessions Memory input [] = ⊤
-HasSessions Memory input (script ∷ rest) = AreScripts input (script ∷ rest)
-HasSessions NotBuilt input sessions = (sessions ≡ []) × HasNoScripts input
-HasSessions ReadFault input sessions = sessions ≡ []
-HasSessions Usage input sessions = sessions ≡ []
+HasSessions ends.Ok input sessions = AreRun input sessions
+HasSessions ends.WriteFault input sessions = AreRun input sessions
+HasSessions ends.Memory input [] = ⊤
+HasSessions ends.Memory input (script ∷ rest) = AreRun input (script ∷ rest)
+HasSessions (ends.NotBuilt session number) input sessions = (sessions ≡ []) × IsUnbuilt input session number
+HasSessions (ends.BadScript fault) input sessions = (sessions ≡ []) × InputIs input (results.Err fault)
+HasSessions ends.ReadFault input sessions = sessions ≡ []
+HasSessions ends.Usage input sessions = sessions ≡ []
 
 -- which statements have their entries
 abbrev pub HasAnswers : Status → List Script → List Entry → Type 0
-HasAnswers Ok sessions history = AllAnswered sessions history
-HasAnswers WriteFault sessions history = AllAnswered sessions history
-HasAnswers Memory sessions history = FirstAnswered sessions history
-HasAnswers NotBuilt sessions history = history ≡ []
-HasAnswers ReadFault sessions history = history ≡ []
-HasAnswers Usage sessions history = history ≡ []
+HasAnswers ends.Ok sessions history = AllAnswered sessions history
+HasAnswers ends.WriteFault sessions history = AllAnswered sessions history
+HasAnswers ends.Memory sessions history = FirstAnswered sessions history
+HasAnswers (ends.NotBuilt session number) sessions history = history ≡ []
+HasAnswers (ends.BadScript fault) sessions history = history ≡ []
+HasAnswers ends.ReadFault sessions history = history ≡ []
+HasAnswers ends.Usage sessions history = history ≡ []
 
 -- how much of the text is written
 abbrev pub HasOutput : Status → List ℕ → Option (List ℕ) → Option (List ℕ) → Type 0
-HasOutput Ok text held now = Appends held now text
-HasOutput WriteFault text held now = AppendsPrefix held now text
-HasOutput Memory text held now = AppendsPrefix held now text
-HasOutput NotBuilt text held now = Keeps held now
-HasOutput ReadFault text held now = Keeps held now
-HasOutput Usage text held now = Keeps held now
+HasOutput ends.Ok text held now = Appends held now text
+HasOutput ends.WriteFault text held now = AppendsPrefix held now text
+HasOutput ends.Memory text held now = AppendsPrefix held now text
+HasOutput (ends.NotBuilt session number) text held now = Keeps held now
+HasOutput (ends.BadScript fault) text held now = Keeps held now
+HasOutput ends.ReadFault text held now = Keeps held now
+HasOutput ends.Usage text held now = Keeps held now
 
 -- The printed answers are those that a dictionary of one thread gives along one history that holds each script's
 -- statements once, in order. A source or a sink that tells nothing is bound by this too, as far as the history goes.
@@ -95,20 +107,18 @@ pub record Headline (status : Status) (input : Option (List ℕ)) (history : Lis
 
 -- ## Completeness
 
--- the source tells an input of the form that is read
-abbrev pub IsScript : Option (List Script) → Type 0
-IsScript None = ⊥
-IsScript (Some sessions) = ⊤
+-- sessions that are all run
+abbrev pub AreGood : Result (List Script) ScriptFault → Type 0
+AreGood (results.Ok sessions) = first_unbuilt sessions ≡ None
+AreGood (results.Err fault) = ⊥
 
+-- the source tells an input that is a good script, all of which is run
 abbrev pub IsGood : Option (List ℕ) → Type 0
 IsGood None = ⊥
-IsGood (Some input) = IsScript (scripts input)
+IsGood (Some input) = AreGood (scripts input)
 
 -- all was done, or there was no memory
 abbrev pub IsDone : Status → Type 0
-IsDone Ok = ⊤
-IsDone Memory = ⊤
-IsDone NotBuilt = ⊥
-IsDone ReadFault = ⊥
-IsDone WriteFault = ⊥
-IsDone Usage = ⊥
+IsDone ends.Ok = ⊤
+IsDone ends.Memory = ⊤
+IsDone status = ⊥

@@ -1,5 +1,5 @@
 pub mod Words
-pub mod Scripts
+pub mod Unbuilt
 pub mod Printed
 pub mod Writes
 pub mod Headline

@@ -10,7 +10,7 @@ use Rattle.dd_engine.specs.declared.history.Answer.{Answer}
 use Rattle.dd_engine.specs.declared.history.Answer.TheVariants.{Done, Rows, Error, Memory}
 use Rattle.dd_engine.specs.declared.history.Entry.{Entry}
 use Rattle.dd_engine.specs.History.{part}
-use Rattle.ddrun.specs.declared.script.Script.{Script}
+use Rattle.script_read.specs.declared.script.Script.{Script}
 
 -- in a value a line feed, a tab, a backslash and a zero byte are written \n, \t, \\ and \0
 abbrev pub escaped : ℕ → List ℕ

@@ -4,9 +4,9 @@ ghost use Rattle.ddrun.specs.Writes.{Writes};
 ghost use Rattle.ddrun.specs.Printed.{answers_text, printed, session_line, session_text};
 
 use crate::answer_text::entry_text;
-use crate::script::Script;
 use dd_engine::Entry;
 use edge_io::{Sink, write_all};
+use script_read::Script;
 use std::alloc::{AllocError, Global};
 
 /// Why not all was printed.

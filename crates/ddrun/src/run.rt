@@ -1,24 +1,27 @@
 // The whole run: reads, answers, prints.
-ghost use Rattle.std.specs.Prelude.{◌≡◌, ◌↔◌, ◌+◌, ◌≤◌, ℕ, [], All, None, IfErr, IfOk, OnOk, length, map, take};
+ghost use Rattle.std.specs.Prelude.{◌≡◌, ◌↔◌, ◌+◌, ◌≤◌, ℕ, [], All, None, Ok, IfErr, IfOk, OnOk, length, map, take};
 ghost use Rattle.std.specs.Io.KnownBytes.{IsAtEnd};
 ghost use Rattle.edge_io.specs.Causes.{Rose};
 ghost use Rattle.edge_io.specs.Content.{ConsumesAtMost};
 ghost use Rattle.dd_engine.specs.Catalog.{empty_catalog};
 ghost use Rattle.dd_engine.specs.Engine.{ArePlainFrom};
 ghost use Rattle.dd_engine.specs.History.{LegalHistory};
-ghost use Rattle.ddrun.specs.Headline.{AllAnswered, AreScripts, FirstAnswered, Headline, IsDone, IsGood, IsHistoryOf};
-ghost use Rattle.ddrun.specs.Ending.{AreRunnable, IsRun, IsRunnable, IsUnread, statement_of_entry, status_of};
+ghost use Rattle.ddrun.specs.Headline.{AllAnswered, AreRun, FirstAnswered, Headline, InputIs, IsDone, IsGood, IsHistoryOf};
+ghost use Rattle.ddrun.specs.Ending.{AreRunnable, IsRun, IsRunnable, IsRefused, IsUnread, statement_of_entry, status_of, status_of_fault};
+ghost use Rattle.ddrun.specs.Unbuilt.{first_unbuilt};
 ghost use Rattle.ddrun.specs.Words.{command_of};
+ghost use Rattle.script_read.specs.Scripts.{scripts, IsFew};
+ghost use Rattle.std.specs.List.{AllByRecursion};
 
 use crate::command::{Command, Usage, read_words};
 use crate::print::{PrintFault, print_history};
-use crate::read::{MAX_INPUT, MAX_STATEMENTS, scripts};
-use crate::script::Script;
 use crate::status::{Ended, Status};
+use crate::unbuilt::first_unbuilt;
 use dd_engine::{History, PlainEngine};
 use dd_names::{List, TryCopy};
 use ddl_words::Statement;
 use edge_io::{ReadFault, Sink, Source, read_up_to};
+use script_read::{MAX_INPUT, Script, ScriptFault, scripts};
 use std::alloc::{AllocError, Global};
 
 /// Does what the words of a command line ask for: reads a script from the source, answers its statements, and prints
@@ -63,7 +66,7 @@ fn nothing_done(alloc: Global, status: Status) -> Ended
 
 // Reads the source to its end, or one byte past the greatest input.
 fn read_scripts<S: Source>(alloc: Global, source: &mut S) -> Result<List<Script>, Status>
-    ensures sessions { IfOk result (λ sessions. AreScripts (S.left source.old) sessions) }
+    ensures sessions { IfOk result (λ sessions. AreRun (S.left source.old) sessions) }
     ensures runnable { IfOk result (λ sessions. AreRunnable sessions) }
     ensures ended { OnOk result (IsAtEnd (S.left source.new)) }
     ensures bound { ConsumesAtMost (MAX_INPUT + 1) (S.left source.old) (S.left source.new) }
@@ -74,10 +77,44 @@ fn read_scripts<S: Source>(alloc: Global, source: &mut S) -> Result<List<Script>
         Err(ReadFault::Failed) => return Err(Status::ReadFault),
         Err(ReadFault::Memory) => return Err(Status::Memory),
     };
-    match scripts(alloc, &bytes) {
-        Ok(Some(found)) => Ok(found),
-        Ok(None) => Err(Status::NotBuilt),
-        Err(_) => Err(Status::Memory),
+    sessions_of(alloc, &bytes)
+}
+
+fn status_of_fault(fault: ScriptFault) -> Status
+    ensures { result ≡ status_of_fault fault }
+{
+    match fault {
+        ScriptFault::Memory => Status::Memory,
+        fault => Status::BadScript { fault },
+    }
+}
+
+// The sessions of an input.
+fn good_sessions(alloc: Global, bytes: &[u8]) -> Result<List<Script>, Status>
+    ensures read { IfOk result (λ sessions. scripts bytes.now ≡ Ok sessions) }
+    ensures few { IfOk result (λ sessions. AllByRecursion IsFew sessions) }
+    ensures refused { IfErr result (λ status. IsRefused status (scripts bytes.now)) }
+{
+    match scripts(alloc, bytes) {
+        Ok(found) => Ok(found),
+        Err(fault) => Err(status_of_fault(fault)),
+    }
+}
+
+// The sessions of an input, if all of them is run.
+fn sessions_of(alloc: Global, bytes: &[u8]) -> Result<List<Script>, Status>
+    ensures read { IfOk result (λ sessions. scripts bytes.now ≡ Ok sessions) }
+    ensures built { IfOk result (λ sessions. first_unbuilt sessions ≡ None) }
+    ensures few { IfOk result (λ sessions. AllByRecursion IsFew sessions) }
+    ensures refused { IfErr result (λ status. IsRefused status (scripts bytes.now)) }
+{
+    let found = match good_sessions(alloc, bytes) {
+        Ok(found) => found,
+        Err(status) => return Err(status),
+    };
+    match first_unbuilt(found.as_slice()) {
+        Some((session, number)) => Err(Status::NotBuilt { session, number }),
+        None => Ok(found),
     }
 }
 
@@ -125,7 +162,7 @@ fn answer_scripts(alloc: Global, scripts: &[Script]) -> (History, Result<(), All
 
 // Answers the statements one after another until there is no memory.
 fn answer_all(alloc: Global, statements: &[Statement]) -> (History, Result<(), AllocError>)
-    requires few { length statements.now ≤ MAX_STATEMENTS }
+    requires few { length statements.now ≤ 100000 }
     requires each { All IsRunnable statements.now }
     ensures legal { LegalHistory empty_catalog result.0 }
     ensures plain { ArePlainFrom 0 result.0 }

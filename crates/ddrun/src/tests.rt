@@ -1,64 +1,151 @@
 use crate::command::{Command, Usage, read_words};
 use crate::complaint::complaint_of;
 use crate::print::{PrintFault, print_history};
-use crate::read::scripts;
 use crate::run::ddrun;
 use crate::status::Status;
 use edge_io::{MemorySink, MemorySource};
+use script_read::{Script, ScriptFault, scripts};
 use std::alloc::{AllocError, Global};
 use std::test::Fail;
 
-/// What a run is given, and how it must end.
-#[derive(Drop)]
-struct Case {
-    words: &'static [&'static str],
-    input: &'static str,
-    status: Status,
-    output: &'static str,
-    entries: usize,
-}
+/// Inputs that are answered, with the output and how many statements they have.
+const ANSWERED: [(&str, &str, usize); 15] = [
+    SHOWN,
+    (
+        "session a\nCREATE DATABASE mysql;",
+        "-- session a\nERROR 1007 (HY000): Can't create database 'mysql'; database exists\n",
+        1,
+    ),
+    ("", "", 0),
+    (" \t\r\n", "", 0),
+    (";", "", 0),
+    ("session a", "-- session a\n", 0),
+    ("session a\n;; ;\n", "-- session a\n", 0),
+    (
+        " \n\tSESSION B_1 \r\ncreate database b;; create\ndatabase a ;CREATE DATABASE b;show databases ; \r\n",
+        "-- session B_1\nOK\nOK\nERROR 1007 (HY000): Can't create database 'b'; database exists\nDatabase\na\nb\n",
+        4,
+    ),
+    (
+        "session a\nCREATE DATABASE B; CREATE DATABASE b; SHOW DATABASES;",
+        "-- session a\nOK\nOK\nDatabase\nB\nb\n",
+        3,
+    ),
+    (
+        "session a\nCREATE SCHEMA IF NOT EXISTS `use` CHARSET utf8mb4; /* ; */ create database `use`; # ;\nCREATE DATABASE IF NOT EXISTS `use`;",
+        "-- session a\nOK\nERROR 1007 (HY000): Can't create database 'use'; database exists\nOK\n",
+        3,
+    ),
+    (
+        "session a\nCREATE DATABASE e e;",
+        "-- session a\nERROR 1064 (42000): You have an error in your SQL syntax at byte 18\n",
+        1,
+    ),
+    (
+        "session a\nCREATE DATABASE select; USE ';'; SHOW SCHEMAS;",
+        "-- session a\nERROR 1064 (42000): You have an error in your SQL syntax at byte 16\nERROR 1064 (42000): You have an error in your SQL syntax at byte 4\nDatabase\n",
+        3,
+    ),
+    (
+        "session a\nCREATE DATABASE 12;",
+        "-- session a\nERROR 1064 (42000): You have an error in your SQL syntax at byte 16\n",
+        1,
+    ),
+    (
+        "session a\n/*!40000 */;",
+        "-- session a\nERROR 1064 (42000): You have an error in your SQL syntax at byte 11\n",
+        1,
+    ),
+    (
+        "session a\nCREATE DATABASE aaaaaaaaaaaaaaaaaaaaaaaaaaaaaaaaaaaaaaaaaaaaaaaaaaaaaaaaaaaaaaaaa;",
+        "-- session a\nERROR 1059 (42000): Identifier name 'aaaaaaaaaaaaaaaaaaaaaaaaaaaaaaaaaaaaaaaaaaaaaaaaaaaaaaaaaaaaaaaaa' is too long\n",
+        1,
+    ),
+];
 
-// A run on the word `run`, which is answered.
-fn answered(input: &'static str, output: &'static str, entries: usize) -> Case {
-    Case {
-        words: &["run"],
-        input,
-        status: Status::Ok,
-        output,
-        entries,
-    }
-}
+/// A schema is made and shown.
+const SHOWN: (&str, &str, usize) = (
+    "session a\nCREATE DATABASE d; SHOW DATABASES;",
+    "-- session a\nOK\nDatabase\nd\n",
+    2,
+);
 
-// A run on the word `run`, whose input hasn't the form that is read.
-fn not_built(input: &'static str) -> Case {
-    Case {
-        words: &["run"],
-        input,
-        status: Status::NotBuilt,
-        output: "",
-        entries: 0,
-    }
-}
+/// Inputs of which nothing is answered.
+const REFUSED: [(&str, Status); 11] = [
+    (
+        "session a\nSHOW TABLES;",
+        Status::NotBuilt {
+            session: 0,
+            number: 0,
+        },
+    ),
+    (
+        "session a\nSHOW DATABASES; x; USE d; session b\nUSE d;",
+        Status::NotBuilt {
+            session: 0,
+            number: 2,
+        },
+    ),
+    (
+        "session a\nSHOW DATABASES; session b\nSHOW DATABASES;",
+        Status::NotBuilt {
+            session: 1,
+            number: 0,
+        },
+    ),
+    (
+        "session a\nsession b",
+        Status::NotBuilt {
+            session: 1,
+            number: 0,
+        },
+    ),
+    (
+        "SHOW DATABASES;",
+        Status::BadScript {
+            fault: ScriptFault::NoSession { at: 0 },
+        },
+    ),
+    (
+        "session a\nSHOW DATABASES",
+        Status::BadScript {
+            fault: ScriptFault::Unended { at: 10 },
+        },
+    ),
+    (
+        "session a\nUSE d; /*",
+        Status::BadScript {
+            fault: ScriptFault::Unended { at: 17 },
+        },
+    ),
+    (
+        "session a b\nSHOW DATABASES;",
+        Status::BadScript {
+            fault: ScriptFault::BadName { at: 0 },
+        },
+    ),
+    (
+        "session\na SHOW DATABASES;",
+        Status::BadScript {
+            fault: ScriptFault::BadName { at: 0 },
+        },
+    ),
+    (
+        "session \u{e9}\n",
+        Status::BadScript {
+            fault: ScriptFault::BadName { at: 0 },
+        },
+    ),
+    (
+        "session a\nsession b\nsession a",
+        Status::BadScript {
+            fault: ScriptFault::Repeated { at: 20 },
+        },
+    ),
+];
 
-// A run on words that ask for nothing.
-fn usage(words: &'static [&'static str]) -> Case {
-    Case {
-        words,
-        input: "",
-        status: Status::Usage,
-        output: "",
-        entries: 0,
-    }
-}
-
-// A schema is made and shown.
-fn shown() -> Case {
-    answered(
-        "session a\nCREATE DATABASE d; SHOW DATABASES;",
-        "-- session a\nOK\nDatabase\nd\n",
-        2,
-    )
-}
+/// Words that ask for nothing that the program does.
+const OTHER_WORDS: [&[&str]; 4] = [&[], &["run", "x"], &["RUN"], &["grow", "1"]];
 
 #[derive(Drop)]
 struct Outcome {
@@ -67,17 +154,18 @@ struct Outcome {
     entries: usize,
 }
 
-// Runs a case whose calls of the source and of the sink with these numbers fail.
-fn run_case(
+// Runs on these words and this input; the calls of the source and of the sink with these numbers fail.
+fn run_on(
     alloc: Global,
-    case: &Case,
+    words: &[&str],
+    input: &str,
     reads: &[u64],
     writes: &[u64],
 ) -> Result<Outcome, AllocError> {
-    let input = Vec::from_slice(alloc, case.input.as_bytes())?;
+    let input = Vec::from_slice(alloc, input.as_bytes())?;
     let mut source = MemorySource::new(input, Vec::from_slice(alloc, reads)?);
     let mut sink = MemorySink::new(alloc, Vec::from_slice(alloc, writes)?);
-    let ended = ddrun(alloc, case.words, &mut source, &mut sink);
+    let ended = ddrun(alloc, words, &mut source, &mut sink);
     Ok(Outcome {
         status: ended.status,
         output: Vec::from_slice(alloc, sink.written())?,
@@ -85,59 +173,39 @@ fn run_case(
     })
 }
 
+/// Whether a run ended so.
+fn has_ended(outcome: &Outcome, status: Status, output: &str, entries: usize) -> bool {
+    outcome.status == status
+        && outcome.output.as_slice() == output.as_bytes()
+        && outcome.entries == entries
+}
+
 #[test]
-fn scripts_are_answered_or_refused(rt: HostRuntime) -> Result<(), Fail> {
-    let alloc = rt.alloc();
-    let cases = [
-        shown(),
-        answered(
-            "session a\nCREATE DATABASE mysql;",
-            "-- session a\nERROR 1007 (HY000): Can't create database 'mysql'; database exists\n",
-            1,
-        ),
-        answered("", "", 0),
-        answered(" \t\r\n", "", 0),
-        answered("session a", "-- session a\n", 0),
-        answered("session a\n;; ;\n", "-- session a\n", 0),
-        answered(
-            " \n\tSESSION B_1 \r\ncreate database b;; create\ndatabase a ;CREATE DATABASE b;show databases ; \r\n",
-            "-- session B_1\nOK\nOK\nERROR 1007 (HY000): Can't create database 'b'; database exists\nDatabase\na\nb\n",
-            4,
-        ),
-        answered(
-            "session a\nCREATE DATABASE B; CREATE DATABASE b; SHOW DATABASES;",
-            "-- session a\nOK\nOK\nDatabase\nB\nb\n",
-            3,
-        ),
-        not_built("session a\nSHOW TABLES;"),
-        not_built("session a\nSHOW DATABASES"),
-        not_built("session a\nCREATE DATABASE select;"),
-        not_built("session a\nCREATE DATABASE 12;"),
-        not_built("session a\nCREATE DATABASE d e;"),
-        not_built(
-            "session a\nCREATE DATABASE aaaaaaaaaaaaaaaaaaaaaaaaaaaaaaaaaaaaaaaaaaaaaaaaaaaaaaaaaaaaaaaaa;",
-        ),
-        not_built("session a b\nSHOW DATABASES;"),
-        not_built("session\na SHOW DATABASES;"),
-        not_built("SHOW DATABASES;"),
-        not_built(";"),
-        not_built("session a\nSHOW DATABASES; session b\nSHOW DATABASES;"),
-        not_built("session \u{e9}\n"),
-        usage(&[]),
-        usage(&["run", "x"]),
-        usage(&["RUN"]),
-        usage(&["grow", "1"]),
-    ];
-    for case in &cases {
-        let outcome = run_case(alloc, case, &[], &[])?;
-        assert_eq!(rt; outcome.status, case.status, "at {:?}", case.input);
-        assert_eq!(rt;
-            outcome.output.as_slice(),
-            case.output.as_bytes(),
-            "at {:?}",
-            case.input
+fn good_scripts_are_answered(rt: HostRuntime) -> Result<(), Fail> {
+    for (input, output, entries) in &ANSWERED {
+        let outcome = run_on(rt.alloc(), &["run"], input, &[], &[])?;
+        assert!(rt;
+            has_ended(&outcome, Status::Ok, output, *entries),
+            "{input}"
         );
-        assert_eq!(rt; outcome.entries, case.entries, "at {:?}", case.input);
+    }
+    Ok(())
+}
+
+#[test]
+fn other_scripts_are_refused(rt: HostRuntime) -> Result<(), Fail> {
+    for (input, status) in &REFUSED {
+        let outcome = run_on(rt.alloc(), &["run"], input, &[], &[])?;
+        assert!(rt; has_ended(&outcome, *status, "", 0), "{input}");
+    }
+    Ok(())
+}
+
+#[test]
+fn other_words_are_refused(rt: HostRuntime) -> Result<(), Fail> {
+    for words in OTHER_WORDS {
+        let outcome = run_on(rt.alloc(), words, "", &[], &[])?;
+        assert!(rt; has_ended(&outcome, Status::Usage, "", 0), "{words:?}");
     }
     Ok(())
 }
@@ -153,16 +221,27 @@ fn a_failing_read_or_write_ends_the_run(rt: HostRuntime) -> Result<(), Fail> {
         (&[], &[3], Status::WriteFault, "-- session a\nOK\n", 2),
     ];
     for (reads, writes, status, output, entries) in cases {
-        let outcome = run_case(alloc, &shown(), reads, writes)?;
-        assert_eq!(rt; outcome.status, status, "at {reads:?} {writes:?}");
-        assert_eq!(rt;
-            outcome.output.as_slice(),
-            output.as_bytes(),
+        let outcome = run_on(alloc, &["run"], SHOWN.0, reads, writes)?;
+        assert!(rt;
+            has_ended(&outcome, status, output, entries),
             "at {reads:?} {writes:?}"
         );
-        assert_eq!(rt; outcome.entries, entries, "at {reads:?} {writes:?}");
     }
     Ok(())
+}
+
+/// How printing no history of one session ends, and how much is written; the calls of the sink with these numbers fail.
+fn printed(
+    alloc: Global,
+    sessions: &[Script],
+    writes: &[u64],
+) -> Result<(Result<(), PrintFault>, usize), AllocError> {
+    let mut sink = MemorySink::new(alloc, Vec::from_slice(alloc, writes)?);
+    if sessions.len() != 1 {
+        return Err(AllocError);
+    }
+    let ended = print_history(alloc, sessions, &[], &mut sink);
+    Ok((ended, sink.written().len()))
 }
 
 #[test]
@@ -172,19 +251,13 @@ fn an_input_is_read_and_its_history_printed_by_calls_of_their_own(
     let alloc = rt.alloc();
     assert_eq!(rt; read_words(&["run"]), Ok(Command::Run));
     assert_eq!(rt; read_words(&["grow"]), Err(Usage));
-    let Some(found) = scripts(alloc, b"session a\nSHOW DATABASES;")? else {
+    let Ok(found) = scripts(alloc, b"session a\nSHOW DATABASES;") else {
         return Err(Fail::from(AllocError));
     };
-    let mut sink = MemorySink::new(alloc, Vec::new(alloc));
+    assert_eq!(rt; printed(alloc, found.as_slice(), &[])?, (Ok(()), 13));
     assert_eq!(rt;
-        print_history(alloc, found.as_slice(), &[], &mut sink),
-        Ok(())
-    );
-    assert_eq!(rt; sink.written(), b"-- session a\n".as_slice());
-    let mut sink = MemorySink::new(alloc, Vec::from_slice(alloc, &[1])?);
-    assert_eq!(rt;
-        print_history(alloc, found.as_slice(), &[], &mut sink),
-        Err(PrintFault::WriteFault)
+        printed(alloc, found.as_slice(), &[1])?,
+        (Err(PrintFault::WriteFault), 0)
     );
     Ok(())
 }
@@ -198,10 +271,53 @@ fn each_status_has_its_number_and_line(rt: HostRuntime) -> Result<(), Fail> {
         (Status::Memory, 4, "ddrun: no memory"),
         (Status::ReadFault, 5, "ddrun: read fault"),
         (Status::WriteFault, 6, "ddrun: write fault"),
-        (Status::NotBuilt, 90, "ddrun: not built"),
+        (
+            Status::NotBuilt {
+                session: 1,
+                number: 0,
+            },
+            90,
+            "ddrun: not built",
+        ),
     ] {
         let complaint = complaint_of(status).ok_or("nothing to say")?;
         assert_eq!(rt; complaint.code(), code);
+        assert_eq!(rt; complaint.to_string(alloc)?.as_str(), line);
+    }
+    Ok(())
+}
+
+#[test]
+fn each_fault_of_a_script_has_its_line(rt: HostRuntime) -> Result<(), Fail> {
+    let alloc = rt.alloc();
+    for (fault, line) in [
+        (
+            ScriptFault::NotUtf8 { at: 0 },
+            "ddrun: bad script at byte 0: not UTF-8",
+        ),
+        (
+            ScriptFault::NoSession { at: 1 },
+            "ddrun: bad script at byte 1: no session",
+        ),
+        (
+            ScriptFault::BadName { at: 2 },
+            "ddrun: bad script at byte 2: bad session name",
+        ),
+        (
+            ScriptFault::Repeated { at: 3 },
+            "ddrun: bad script at byte 3: repeated session",
+        ),
+        (
+            ScriptFault::Unended { at: 4 },
+            "ddrun: bad script at byte 4: unended",
+        ),
+        (
+            ScriptFault::Limit { at: 5 },
+            "ddrun: bad script at byte 5: limit",
+        ),
+        (ScriptFault::Memory, "ddrun: no memory"),
+    ] {
+        let complaint = complaint_of(Status::BadScript { fault }).ok_or("nothing to say")?;
         assert_eq!(rt; complaint.to_string(alloc)?.as_str(), line);
     }
     Ok(())
