@@ -12,3 +12,4 @@ mod ForeignKeys
 mod ByClass
 pub mod Formed
 pub mod Seen
+mod Fronts

@@ -92,7 +92,8 @@ fn primary_name(alloc: Global) -> Result<Name, AllocError>
     }
 }
 
-fn made_name(alloc: Global, name: &str) -> Result<Name, Stop>
+/// A name that was made; above 64 characters 1059.
+pub fn made_name(alloc: Global, name: &str) -> Result<Name, Stop>
     ensures { (look : Look) → Follows (λ made. made) result (run look (made_name name.now)) }
 {
     match Name::read(alloc, name, true) {

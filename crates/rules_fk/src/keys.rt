@@ -68,8 +68,8 @@ fn has_primary(indexes: &[IndexDef]) -> bool
     indexes.iter().any(|index| is_primary_class(index.class))
 }
 
-/// The columns as the table spells them.
-fn key_columns(alloc: Global, columns: &[ColumnDef], names: &[Name]) -> Result<List<Name>, Stop>
+/// The columns as the table spells them: 1072 for one that it doesn't have, 1060 for one that stands twice.
+pub fn key_columns(alloc: Global, columns: &[ColumnDef], names: &[Name]) -> Result<List<Name>, Stop>
     ensures { (look : Look) → Follows (λ spelled. spelled) result (run look (key_columns columns.now names.now)) }
 {
     let mut found = List::new(alloc);

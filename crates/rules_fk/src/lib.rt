@@ -9,11 +9,13 @@ mod index_names;
 mod keys;
 mod kinds;
 mod parents;
-mod refusals;
+pub mod refusals;
 #[cfg(test)]
 mod tests;
 
 pub use checked::Checked;
 pub use columns::check_column;
 pub use foreign_keys::check_fk;
-pub use keys::check_key;
+pub use index_names::made_name;
+pub use keys::{check_key, key_columns};
+pub use parents::is_same_object;

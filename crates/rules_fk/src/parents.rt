@@ -42,7 +42,8 @@ fn table_seen<'a>(alloc: Global, parent: &Name, object: &'a Object) -> Result<&'
     }
 }
 
-pub(crate) fn is_same_object(a: &ObjName, b: &ObjName) -> bool
+/// Whether both are of one schema and one name.
+pub fn is_same_object(a: &ObjName, b: &ObjName) -> bool
     ensures { result ≡ is_same_object a.now b.now }
 {
     a.schema == b.schema && a.name == b.name

@@ -31,8 +31,9 @@ fn three(alloc: Global, first: &str, second: &str, third: &str) -> Result<List<T
     Ok(args)
 }
 
+/// 1060: the column is there.
 #[tactic(auto, unfolding(dd_errors::specs::Errors::form_of))]
-pub(crate) fn column_twice(alloc: Global, name: &Name) -> Result<Stop, AllocError>
+pub fn column_twice(alloc: Global, name: &Name) -> Result<Stop, AllocError>
     ensures { IfOk result (λ stop. stop ≡ Stop.Refused (column_twice name.now)) }
 {
     Ok(Stop::Refused(SqlError::of(1060, one(alloc, name.as_str())?)))
@@ -73,8 +74,9 @@ pub(crate) fn second_primary(alloc: Global) -> Stop
     Stop::Refused(SqlError::of(1068, List::new(alloc)))
 }
 
+/// 1070: a key has more than 16 columns.
 #[tactic(auto, unfolding(dd_errors::specs::Errors::form_of))]
-pub(crate) fn too_many_columns(alloc: Global) -> Stop
+pub fn too_many_columns(alloc: Global) -> Stop
     ensures { result ≡ Stop.Refused too_many_columns }
 {
     Stop::Refused(SqlError::of(1070, List::new(alloc)))

@@ -1,6 +1,6 @@
 // Each refusal with its arguments.
 ghost use Rattle.std.specs.Prelude.{◌≡◌, [], ◌∷◌, IfOk};
-ghost use Rattle.rules_fk.specs.Refusals.{error_with};
+ghost use Rattle.rules_fk.specs.Refusals.{error_with, no_column};
 ghost use Rattle.rules_named.specs.Refusals.{schema_present, schema_absent, unknown_schema, table_present, unknown_tables, named_twice, columns_differ, no_schema_selected, too_many_indexes, bad_auto_column, no_columns, too_many_columns, null_in_primary, no_table, schema_changed, is_referenced};
 
 use dd_errors::SqlError;
@@ -95,6 +95,14 @@ pub fn too_many_indexes(alloc: Global) -> SqlError
     SqlError::of(1069, List::new(alloc))
 }
 
+/// 1072: a key has no column, which is told as an unknown one without name.
+#[tactic(auto, unfolding(dd_errors::specs::Errors::form_of))]
+pub fn no_key_column(alloc: Global) -> Result<SqlError, AllocError>
+    ensures { IfOk result (λ error. error ≡ no_column []) }
+{
+    Ok(SqlError::of(1072, one(alloc, "")?))
+}
+
 /// 1075: a table has a second AUTO_INCREMENT column, or one that no index begins with.
 #[tactic(auto, unfolding(dd_errors::specs::Errors::form_of))]
 pub fn bad_auto_column(alloc: Global) -> SqlError
@@ -140,10 +148,10 @@ pub fn null_in_primary(alloc: Global) -> SqlError
 
 /// 1239: a foreign key has more or fewer columns than its parent columns.
 #[tactic(auto, unfolding(dd_errors::specs::Errors::form_of))]
-pub fn columns_differ(alloc: Global, constraint: &Name) -> Result<SqlError, AllocError>
+pub fn columns_differ(alloc: Global, constraint: &str) -> Result<SqlError, AllocError>
     ensures { IfOk result (λ error. error ≡ columns_differ constraint.now) }
 {
-    Ok(SqlError::of(1239, one(alloc, constraint.as_str())?))
+    Ok(SqlError::of(1239, one(alloc, constraint)?))
 }
 
 /// 1450: a table would move to another schema.
