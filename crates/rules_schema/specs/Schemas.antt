@@ -1,14 +1,13 @@
 -- CREATE DATABASE and DROP DATABASE.
-use Rattle.std.specs.Prelude.{ℕ, Bool, true, false, ◌||◌, nat_lt, List, [], ◌∷◌, ◌++◌, map, length, Option, Some, None, if◌then◌else◌}
+use Rattle.std.specs.Prelude.{ℕ, Bool, true, false, nat_lt, List, [], ◌∷◌, ◌++◌, map, length, Option, Some, None, if◌then◌else◌}
 use Rattle.std.specs.Str.{bytes_eq}
 use Rattle.dd_names.specs.Reserved.{is_system_schema}
 use Rattle.dd_names.specs.declared.object_name.ObjName.{ObjName}
 use Rattle.dd_names.specs.declared.object_name.ObjectKey.TheVariants as keys
 use Rattle.dd_errors.specs.Errors.{ErrorValue}
 use Rattle.ddl_words.specs.declared.session.SessionState.{SessionState}
-use Rattle.dd_catalog.specs.Sights.{Sight}
-use Rattle.dd_catalog.specs.Walks.{Walk, done, refuse, ◌>>=◌, look_at, refuse_if, every}
-use Rattle.ddl_decided.specs.Choices.{Gone, Schema, Change, change, Choice, Same, Changes}
+use Rattle.dd_catalog.specs.Walks.{Walk, done, ◌>>=◌, look_at, refuse_if, every}
+use Rattle.ddl_decided.specs.Choices.{Gone, Schema, Change, change, Choice, Changes}
 use Rattle.rules_named.specs.Refusals.{schema_present, schema_absent, beyond_limit}
 use Rattle.rules_named.specs.Named.{object_in, is_nothing, unless}
 use Rattle.rules_schema.specs.Listings.{names_seen}

@@ -1,5 +1,5 @@
 -- USE and SET.
-use Rattle.std.specs.Prelude.{ℕ, min, max, List, [], Option, Some}
+use Rattle.std.specs.Prelude.{ℕ, min, max, List, [], Some}
 use Rattle.dd_errors.specs.Errors.{ErrorValue}
 use Rattle.ddl_words.specs.declared.session.SessionState.{SessionState}
 use Rattle.dd_catalog.specs.Walks.{Walk, done, ◌>>=◌}

@@ -1,17 +1,20 @@
-// SHOW DATABASES (MySQL 8.0 Reference Manual, 13.7.7).
-ghost use Rattle.std.specs.Prelude.{◌≡◌, IfOk, map};
+// SHOW DATABASES and SHOW TABLES (MySQL 8.0 Reference Manual, 13.7.7).
+ghost use Rattle.std.specs.Prelude.{◌≡◌, ◌++◌, IfOk, map, codes};
+ghost use Rattle.std.specs.Option.{option_copied};
 ghost use Rattle.dd_catalog.specs.Sights.{sight};
 ghost use Rattle.dd_catalog.specs.Walks.{run};
-ghost use Rattle.dd_catalog.specs.Follow.{sights};
+ghost use Rattle.dd_catalog.specs.WalkLaws.{Look};
+ghost use Rattle.dd_catalog.specs.Follow.{Follows, sights};
 ghost use Rattle.ddl_decided.specs.Decided.{found_of, AreBefore};
 ghost use Rattle.rules_named.specs.Answers.{Decides};
-ghost use Rattle.rules_schema.specs.Listings.{names_seen, row_of, names_listed, show_databases};
+ghost use Rattle.rules_schema.specs.Listings.{names_seen, row_of, names_listed, show_databases, chosen_schema, show_tables};
 
 use dd_catalog::{Lookup, Object, Stop};
-use dd_names::{List, Name, ObjectKey, Text};
+use dd_names::{List, Name, ObjectKey, Text, TryCopy};
 use dd_objects::{Cell, ListRow, Listing};
 use ddl_decided::Decided;
-use rules_named::{decided, known_at};
+use ddl_words::SessionState;
+use rules_named::{decided, first_given, known_at, refusals, schema_there};
 use std::alloc::{AllocError, Global};
 
 /// What SHOW DATABASES comes to: the schemas in byte order.
@@ -32,8 +35,55 @@ fn schemas_shown<L: Lookup>(alloc: Global, look: &L) -> Result<Decided, Stop>
     Ok(Decided::Rows(names_listed(alloc, header, names_seen(object))?))
 }
 
+/// What SHOW TABLES comes to: the tables and views of the schema in byte order; 1046 without a schema, 1049 where it isn't there.
+pub fn show_tables<L: Lookup>(
+    alloc: Global,
+    session: &SessionState,
+    schema: &Option<Name>,
+    look: &L,
+) -> Result<Decided, AllocError>
+    ensures exact { IfOk result (λ d. found_of d ≡ run (sights (L.known look.now)) (show_tables session.now schema.now)) }
+    ensures before { IfOk result (λ d. AreBefore (L.known look.now) d) }
+{
+    decided(tables_shown(alloc, session, schema, look))
+}
+
+#[tactic(auto, using(dd_catalog::specs::WalkLaws::run_bind), unfolding(crate::specs::Listings::show_tables))]
+fn tables_shown<L: Lookup>(
+    alloc: Global,
+    session: &SessionState,
+    named: &Option<Name>,
+    look: &L,
+) -> Result<Decided, Stop>
+    ensures exact { Decides result (run (sights (L.known look.now)) (show_tables session.now named.now)) }
+    ensures before { IfOk result (λ d. AreBefore (L.known look.now) d) }
+{
+    let schema = chosen_schema(alloc, first_given(named, &session.current))?;
+    schema_there(alloc, schema, look)?;
+    let object = known_at(look, &ObjectKey::Objects(schema.copy()?))?;
+    let header = tables_header(alloc, schema)?;
+    Ok(Decided::Rows(names_listed(alloc, header, names_seen(object))?))
+}
+
+fn chosen_schema<'a>(alloc: Global, schema: Option<&'a Name>) -> Result<&'a Name, Stop>
+    ensures { (look : Look) → Follows (λ chosen. chosen.now) result (run look (chosen_schema (option_copied schema.entry))) }
+{
+    match schema {
+        None => Err(Stop::Refused(refusals::no_schema_selected(alloc))),
+        Some(schema) => Ok(schema),
+    }
+}
+
+fn tables_header(alloc: Global, schema: &Name) -> Result<Text, AllocError>
+    ensures { IfOk result (λ header. header ≡ codes "Tables_in_" ++ schema.now) }
+{
+    let mut header = Text::of(alloc, "Tables_in_")?;
+    header.push_str(schema.as_str())?;
+    Ok(header)
+}
+
 /// The names in a list that stands at a key.
-fn names_seen(object: &Object) -> &[Name]
+pub(crate) fn names_seen(object: &Object) -> &[Name]
     ensures { result.now ≡ names_seen (sight object.now) }
 {
     match object {

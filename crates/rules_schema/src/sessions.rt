@@ -1,15 +1,52 @@
-// SET (MySQL 8.0 Reference Manual, 5.1.8).
+// USE and SET (MySQL 8.0 Reference Manual, 13.8.4 and 5.1.8).
 ghost use Rattle.std.specs.Prelude.{◌≡◌, IfOk};
 ghost use Rattle.dd_catalog.specs.Walks.{run};
 ghost use Rattle.dd_catalog.specs.Follow.{sights};
 ghost use Rattle.ddl_decided.specs.Decided.{found_of, AreBefore};
-ghost use Rattle.rules_schema.specs.Sessions.{set_tries};
+ghost use Rattle.rules_named.specs.Answers.{Decides};
+ghost use Rattle.rules_schema.specs.Sessions.{use_schema, set_tries};
 
-use dd_catalog::Lookup;
-use dd_names::{List, TryCopy};
+use dd_catalog::{Lookup, Stop};
+use dd_names::{List, Name, TryCopy};
 use ddl_decided::{Decided, Edits};
 use ddl_words::SessionState;
+use rules_named::{decided, schema_there};
 use std::alloc::{AllocError, Global};
+
+/// What USE comes to: 1049 where the schema isn't there.
+pub fn use_schema<L: Lookup>(
+    alloc: Global,
+    session: &SessionState,
+    name: &Name,
+    look: &L,
+) -> Result<Decided, AllocError>
+    ensures exact { IfOk result (λ d. found_of d ≡ run (sights (L.known look.now)) (use_schema session.now name.now)) }
+    ensures before { IfOk result (λ d. AreBefore (L.known look.now) d) }
+{
+    decided(schema_used(alloc, session, name, look))
+}
+
+#[tactic(auto, using(dd_catalog::specs::WalkLaws::run_bind), unfolding(crate::specs::Sessions::use_schema))]
+fn schema_used<L: Lookup>(
+    alloc: Global,
+    session: &SessionState,
+    name: &Name,
+    look: &L,
+) -> Result<Decided, Stop>
+    ensures exact { Decides result (run (sights (L.known look.now)) (use_schema session.now name.now)) }
+    ensures before { IfOk result (λ d. AreBefore (L.known look.now) d) }
+{
+    schema_there(alloc, name, look)?;
+    let session = SessionState {
+        number: session.number,
+        current: Some(name.copy()?),
+        tries: session.tries,
+    };
+    Ok(Decided::Edits(Edits {
+        puts: List::new(alloc),
+        session,
+    }))
+}
 
 /// What SET lock_wait_timeout comes to; it is never refused.
 #[tactic(auto, unfolding(crate::specs::Sessions::set_tries))]

@@ -1,0 +1,4 @@
+pub mod AllGone
+pub mod Joined
+pub mod Staying
+pub mod Twice
