@@ -22,9 +22,10 @@ use Rattle.rules_named.specs.Refusals.{schema_changed, beyond_limit}
 use Rattle.rules_schema.specs.Drops.{children_seen}
 use Rattle.rules_create.specs.Leaves.{IsTableAt, IsViewAt, SeesFormed, IsFormedAt, IsFormedBehind, LeavesFormed}
 use Rattle.rules_rename.specs.Overlays.{behind_changes, changes_in}
+use Rattle.rules_rename.specs.Behind.{look_behind, run_behind}
 use Rattle.rules_rename.specs.Renames.{renamed_keys, child_after, renamed_child, name_is_free, Renamed, renamed_table, renamed_view, renamed_seen, renamed_object, Renaming, one_pair, named_pair, schemas_there, rename}
 use Rattle.rules_rename.proofs.ForeignKeys.{child_is_formed, table_is_formed}
-use Rattle.rules_rename.proofs.Overlays.{IsFormedOver, none_over, more_formed, look_behind, run_behind, behind_sees_formed}
+use Rattle.rules_rename.proofs.Overlays.{IsFormedOver, none_over, more_formed, behind_sees_formed}
 
 -- what is seen at a key is what is known there
 known_there : (look : Look) (key : ObjectKey) (seen : Sight) → run {E = ErrorValue} look (look_at key) ≡ fine seen → look key ≡ Some seen

@@ -18,11 +18,11 @@ use Rattle.dd_definitions.specs.declared.parts.TableParts.{TableParts}
 use Rattle.dd_definitions.specs.declared.view_parts.ViewParts.{ViewParts}
 use Rattle.dd_catalog.specs.Catalog.{object_cmp}
 use Rattle.dd_catalog.specs.Sights.{Sight, TableThere, ViewThere}
-use Rattle.dd_catalog.specs.Walks.{Walk, done, refuse, ask, told, run}
 use Rattle.dd_catalog.specs.WalkLaws.{Look}
 use Rattle.ddl_decided.specs.Choices.{After, Gone, Schema, FreshTable, KeptTable, View}
 use Rattle.rules_create.specs.Leaves.{IsTableAt, IsViewAt, SeesFormed, IsFormedAt}
-use Rattle.rules_rename.specs.Overlays.{Overlay, after_seen, object_behind, seen_behind, behind_changes, put_change, with_changes}
+use Rattle.rules_rename.specs.Overlays.{Overlay, after_seen, object_behind, seen_behind, put_change, with_changes}
+use Rattle.rules_rename.specs.Behind.{look_behind}
 
 -- ## Names of objects in their order
 
@@ -80,19 +80,6 @@ got_formed : (overlay : Overlay) (name : ObjName) (after : After) → IsFormedOv
 got_formed overlay name after formed found = found_formed name after (finite_map.entries overlay) (sym (finite_map.get-entries overlay name) ∙ found) formed.all
 
 -- ## What is seen behind them
-
--- what is known at a key behind the changes
-abbrev pub look_behind : Overlay → Look → Look
-look_behind overlay look key = option_map (seen_behind overlay key) (look key)
-
-pub run_behind : {E A : Type 0} (overlay : Overlay) (look : Look) (check : Walk E A) → run look (behind_changes overlay check) ≡ run (look_behind overlay look) check
-run_behind overlay look (done x) = refl
-run_behind overlay look (refuse e) = refl
-run_behind {E = E} {A = A} overlay look (ask key go) =
-    elim (look key) as (λ known. told {E = E} {A = A} known key (λ seen. run look (behind_changes overlay (go (seen_behind overlay key seen)))) ≡ told {E = E} {A = A} (option_map (seen_behind overlay key) known) key (λ seen. run (look_behind overlay look) (go seen))) [
-      | None ↦ refl
-      | Some seen ↦ run_behind overlay look (go (seen_behind overlay key seen))
-    ]
 
 table_after : (name : ObjName) (after : After) (space : ℕ) (parts : TableParts) → IsFormedAt name after → after_seen after ≡ TableThere space parts → IsTableAt name parts
 table_after name Gone space parts formed is = cc

@@ -1,0 +1,11 @@
+pub mod Puts
+pub mod Places
+pub mod Behind
+pub mod Names
+pub mod ChildrenAmong
+pub mod OwnersAmong
+pub mod Keys
+pub mod Edits
+pub mod Free
+pub mod Steps
+pub mod Sighted

@@ -1,0 +1,22 @@
+use Rattle.std.proofs.Common.{◌≡◌, ◌∙◌, ap, sym}
+use Rattle.std.proofs.lemmas.Result.{err_from_is_err_and}
+use Rattle.dd_names.specs.declared.object_name.ObjName.{ObjName}
+use Rattle.dd_catalog.specs.Sights.{sight}
+use Rattle.dd_catalog.specs.Walks.{fine}
+use Rattle.ddl_decided.specs.Choices.{After}
+use Rattle.rules_rename.specs.Renames.{child_after}
+use Rattle.rename_table.specs.Left.{after_left}
+use Rattle.rename_table.specs.Puts.{behind}
+use Rattle.rename_table.proofs.Sighted.{child_stops, child_made}
+use Rattle.rename_table.proofs.one_object.renamed_child.Goals as goal
+
+pub returns-in_err-before-clause-exact : goal.returns-in_err-before-clause-exact
+returns-in_err-before-clause-exact g c =
+    let p = err_from_is_err_and c.from_residual.result c.from_residual.ensures.1 in
+    rw (p.1, p.2) (child_stops (behind (g.L.Lookup.known c.args.look.now) c.args.overlay.now) c.args.from.now c.args.to.now c.args.child.now c.in_err-before.field-0.0 c.in_err-before.ensures.seen)
+
+pub returns-clause-exact : goal.returns-clause-exact
+returns-clause-exact g c =
+    child_made (behind (g.L.Lookup.known c.args.look.now) c.args.overlay.now) c.args.from.now c.args.to.now c.args.child.now (sight c.in_ok-before.now.now) c.in_ok-before.ensures.seen
+    ∙ ap (λ (n : ObjName). fine (n, child_after c.args.from.now c.args.to.now (sight c.in_ok-before.now.now))) (sym c.in_ok-copy.ensures)
+    ∙ ap (λ (a : After). fine (c.in_ok-copy.field-0, a)) (sym c.in_ok-child_after.ensures)
