@@ -71,6 +71,7 @@ renamed_name from to key = on (is_same_object key.parent from)
   where
     new : ForeignKeyDef
     new = record key { name = renamed_constraint from.name to.name key.name }
+
     on : (b : Bool) → (if b then record new { parent = to } else new).name ≡ renamed_constraint from.name to.name key.name
     on true = refl
     on false = refl

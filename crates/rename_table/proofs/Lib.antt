@@ -5,7 +5,6 @@ pub mod Names
 pub mod ChildrenAmong
 pub mod OwnersAmong
 pub mod Keys
-pub mod Edits
 pub mod Free
 pub mod Steps
 pub mod Sighted

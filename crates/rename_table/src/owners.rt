@@ -61,8 +61,7 @@ fn is_owner(put: &Put, schema: &Name, name: &Name) -> bool
 {
     match put.after.object() {
         Object::Table { def, .. } => {
-            put.name.schema == *schema
-                && has_constraint(def.parts().foreign_keys.as_slice(), name)
+            put.name.schema == *schema && has_constraint(def.parts().foreign_keys.as_slice(), name)
         }
         _ => false,
     }

@@ -34,7 +34,7 @@ use Rattle.rules_rename.specs.Renames.{with_parent, renamed_key, fits_in_name, o
 either_way : (from to : ObjName) (key : ForeignKeyDef) (P : ForeignKeyDef → Type 0) → P (record key { parent = to }) → P key → P (with_parent from to key)
 either_way from to key P moved as_it_is = cond_both (is_same_object key.parent from) (record key { parent = to }) key P (λ _. moved) (λ _. as_it_is)
 
-keeps_name : (from to : ObjName) (key : ForeignKeyDef) → (with_parent from to key).name ≡ key.name
+pub keeps_name : (from to : ObjName) (key : ForeignKeyDef) → (with_parent from to key).name ≡ key.name
 keeps_name from to key = either_way from to key (λ k. k.name ≡ key.name) refl refl
 
 parent_keeps : (columns : List ColumnDef) (indexes : List IndexDef) (from to : ObjName) (key : ForeignKeyDef) → is_foreign_key_formed columns indexes (with_parent from to key) ≡ is_foreign_key_formed columns indexes key
@@ -86,11 +86,11 @@ one_more_free look from to before key next is =
     ((or_parts (is_owned_elsewhere from owner) (has_constraint_named before key.name) (not_refused look (is_owned_elsewhere from owner || has_constraint_named before key.name) (constraint_present key.name) tt free)).1, fine_is last)
 
 -- all are there, and no two have the same name
-record AreFree (keys free : List ForeignKeyDef) : Type 0 where
-  all : keys ≡ free
-  distinct : are_distinct is_same_constraint free ≡ true
+pub record AreFree (keys free : List ForeignKeyDef) : Type 0 where
+  pub all : keys ≡ free
+  pub distinct : are_distinct is_same_constraint free ≡ true
 
-over_free : (look : Look) (from to : ObjName) (before keys free : List ForeignKeyDef) → are_distinct is_same_constraint before ≡ true → run look (over (one_free from to) before keys) ≡ fine free → AreFree (before ++ keys) free
+pub over_free : (look : Look) (from to : ObjName) (before keys free : List ForeignKeyDef) → are_distinct is_same_constraint before ≡ true → run look (over (one_free from to) before keys) ≡ fine free → AreFree (before ++ keys) free
 over_free look from to before [] free distinct is = let same_list : before ≡ free = fine_is is in record { all = append-nil before ∙ same_list; distinct = subst (λ (ks : List ForeignKeyDef). are_distinct is_same_constraint ks ≡ true) same_list distinct }
 over_free look from to before (key ∷ rest) free distinct is =
     let (next, one, others) = bind_fine look (one_free from to before key) _ free is in
@@ -101,7 +101,7 @@ over_free look from to before (key ∷ rest) free distinct is =
 
 -- ## In order
 
-in_order_all : (p : ForeignKeyDef → Bool) (keys : List ForeignKeyDef) → list_all p keys ≡ true → list_all p (in_order keys) ≡ true
+pub in_order_all : (p : ForeignKeyDef → Bool) (keys : List ForeignKeyDef) → list_all p keys ≡ true → list_all p (in_order keys) ≡ true
 in_order_all p [] all = refl
 in_order_all p (key ∷ rest) all = let (here, later) = and_parts (p key) (list_all p rest) all in put_all p key (in_order rest) here (in_order_all p rest later)
 

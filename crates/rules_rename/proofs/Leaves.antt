@@ -78,7 +78,7 @@ table_good look from to space parts renamed sees here is =
       all = (tt, (record { formed = table_is_formed look from to parts made here.formed keys_made; named = refl }, each_holds IsGood look (renamed_child from to) (child_good look from to sees) (children_seen seen) children each_made));
     })
 
-view_keeps : (to : ObjName) (parts : ViewParts) → is_view_formed parts ≡ true → is_view_formed (record parts { name = to }) ≡ true
+pub view_keeps : (to : ObjName) (parts : ViewParts) → is_view_formed parts ≡ true → is_view_formed (record parts { name = to }) ≡ true
 unfolding is_view_formed
 view_keeps to parts formed = formed
 

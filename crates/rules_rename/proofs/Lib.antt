@@ -1,3 +1,3 @@
-mod ForeignKeys
-mod Overlays
-mod Leaves
+pub mod ForeignKeys
+pub mod Overlays
+pub mod Leaves

@@ -26,13 +26,13 @@ use Rattle.rules_rename.specs.Behind.{look_behind}
 
 -- ## Names of objects in their order
 
-object_total : IsTotalOrder object_cmp
+pub object_total : IsTotalOrder object_cmp
 object_total = then_total (on_total (λ (o : ObjName). o.schema) nat_list_cmp_total) (on_total (λ (o : ObjName). o.name) nat_list_cmp_total)
 
-same_object : (a b : ObjName) → object_cmp a b ≡ Equal → a ≡ b
+pub same_object : (a b : ObjName) → object_cmp a b ≡ Equal → a ≡ b
 same_object a b tied = ap (λ (p : List ℕ × List ℕ). record { schema = p.0; name = p.1 }) (exact_pairs name_cmp name_cmp exact_bytes exact_bytes (a.schema, a.name) (b.schema, b.name) tied)
 
-equal : (r : Ordering) → is_eq r ≡ true → r ≡ Equal
+pub equal : (r : Ordering) → is_eq r ≡ true → r ≡ Equal
 equal Less is = cc
 equal Equal is = refl
 equal Greater is = cc
