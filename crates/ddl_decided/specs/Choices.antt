@@ -1,6 +1,8 @@
 -- What a statement comes to where it isn't refused, and what its changes make of a catalog.
-use Rattle.std.specs.Prelude.{ℕ, List, [], ◌∷◌}
+use Rattle.std.specs.Prelude.{ℕ, ◌≤◌, Bool, true, false, List, [], ◌∷◌}
+use Rattle.std.specs.List.{list_any}
 use Rattle.std.specs.FinMap as finite_map
+use Rattle.dd_names.specs.declared.object_name.ObjName.{ObjName}
 use Rattle.dd_names.specs.declared.object_name.ObjectKey.{ObjectKey}
 use Rattle.dd_names.specs.declared.object_name.ObjectKey.TheVariants as keys
 use Rattle.dd_objects.specs.declared.listing.Listing.{Listing}
@@ -8,6 +10,7 @@ use Rattle.dd_definitions.specs.declared.parts.TableParts.{TableParts}
 use Rattle.dd_definitions.specs.declared.view_parts.ViewParts.{ViewParts}
 use Rattle.dd_catalog.specs.Catalog.{Catalog}
 use Rattle.dd_catalog.specs.Catalog as placed
+use Rattle.dd_catalog.specs.Valid.{Has}
 use Rattle.ddl_words.specs.declared.session.SessionState.{SessionState}
 
 -- What stands at a key behind a statement: nothing, a schema, a table with a new tablespace or with the one that it had, or a
@@ -49,3 +52,35 @@ applied_at space key after cat = cat
 abbrev pub applied : ℕ → List Change → Catalog → Catalog
 applied space [] cat = cat
 applied space (c ∷ changes) cat = applied space changes (applied_at space c.key c.after cat)
+
+-- the catalog behind the statement
+abbrev pub catalog_behind : ℕ → Choice → Catalog → Catalog
+catalog_behind space Same cat = cat
+catalog_behind space (Changes changes session) cat = applied space changes cat
+catalog_behind space (Lists listing) cat = cat
+
+-- and the session
+abbrev pub session_behind : Choice → SessionState → SessionState
+session_behind Same session = session
+session_behind (Changes changes left) session = left
+session_behind (Lists listing) session = session
+
+-- a tablespace is made
+abbrev pub makes_space : After → Bool
+makes_space Gone = false
+makes_space Schema = false
+makes_space (FreshTable parts) = true
+makes_space (KeptTable space parts) = false
+makes_space (View parts) = false
+
+-- the statement takes a number for a tablespace
+abbrev pub takes_space : Choice → Bool
+takes_space Same = false
+takes_space (Changes changes session) = list_any (λ (c : Change). makes_space c.after) changes
+takes_space (Lists listing) = false
+
+-- a number for a tablespace that no table of the catalog has
+pub record IsNewSpace (cat : Catalog) (space : ℕ) : Type 0 where
+  pub least : 1 ≤ space
+  pub greatest : space ≤ 4294967294
+  pub new : (name : ObjName) (parts : TableParts) → Has cat name (placed.Table space parts) → ⊥

@@ -1,0 +1,93 @@
+-- RENAME TABLE keeps a valid catalog valid.
+use Rattle.std.specs.Prelude.{◌≡◌, ℕ, Bool, true, false, nat_lt, List, [], ◌∷◌, length, refl}
+use Rattle.std.specs.FinMap as finite_map
+use Rattle.std.specs.List.{AllByRecursion}
+use Rattle.std.proofs.Common.{sym, ◌∙◌, ap, subst}
+use Rattle.dd_names.specs.declared.object_name.ObjName.{ObjName}
+use Rattle.ddl_words.specs.declared.session.SessionState.{SessionState}
+use Rattle.ddl_words.specs.declared.statement.RenamePair.{RenamePair}
+use Rattle.dd_catalog.specs.Catalog.{Catalog, NameSet, object_cmp, schema_seen, all_of}
+use Rattle.dd_catalog.specs.Valid.{IsValid}
+use Rattle.dd_catalog.specs.Walks.{fine, run, refuse_if, each, every, over}
+use Rattle.dd_catalog.specs.Asked.{fine_is, bind_fine}
+use Rattle.ddl_decided.specs.Choices.{Choice, Changes, applied, catalog_behind}
+use Rattle.rules_named.specs.Named.{is_nothing, schema_there, own_schema_there}
+use Rattle.rules_named.specs.Refusals.{unknown_schema, beyond_limit}
+use Rattle.rules_create.proofs.Names.{not_refused}
+use Rattle.rules_rename.specs.Overlays.{Overlay, behind_changes, changes_in}
+use Rattle.rules_rename.specs.Renames.{renamed_object, Renaming, one_pair, named_pair, schemas_there, rename}
+use Rattle.rules_rename.specs.Behind.{run_behind}
+use Rattle.rename_valid.proofs.Places.{placed_over}
+use Rattle.rename_valid.proofs.Behind.{KeepsSpaces, none_keeps, more_keep, all_schemas, catalog_places}
+use Rattle.rename_valid.proofs.Sound.{IsSound, schemas_of, from_valid, alike_sound, to_valid}
+use Rattle.rename_valid.proofs.Pair.{now_of, look_of, KeepsValid, pair_keeps}
+
+-- ## Schemas
+
+schema_known : (present : Bool) → is_nothing (schema_seen present) ≡ false → present ≡ true
+schema_known true is = refl
+schema_known false is = cc
+
+known_schema : (cat : Catalog) (name : List ℕ) (x : Unit {0}) → run (all_of cat) (schema_there name) ≡ fine x → schemas_of cat name ≡ true
+unfolding schema_there
+known_schema cat name x is = schema_known (schemas_of cat name) (not_refused (all_of cat) (is_nothing (schema_seen (schemas_of cat name))) (unknown_schema name) x is)
+
+new_schema : (cat : Catalog) (pair : ObjName × ObjName) (x : Unit {0}) → run (all_of cat) (schemas_there pair) ≡ fine x → schemas_of cat pair.1.schema ≡ true
+unfolding schemas_there
+new_schema cat pair x is =
+    let (_, _, last) = bind_fine (all_of cat) (own_schema_there pair.0) (λ _. own_schema_there pair.1) x is in
+    known_schema cat pair.1.schema x last
+
+all_known : (cat : Catalog) (pairs : List (ObjName × ObjName)) (x : Unit {0}) → run (all_of cat) (every schemas_there pairs) ≡ fine x → AllByRecursion (λ (pair : ObjName × ObjName). schemas_of cat pair.1.schema ≡ true) pairs
+all_known cat [] x is = tt
+all_known cat (pair ∷ pairs) x is =
+    let (y, one, rest) = bind_fine (all_of cat) (schemas_there pair) (λ _. every schemas_there pairs) x is in
+    (new_schema cat pair y one, all_known cat pairs x rest)
+
+-- ## All pairs
+
+record IsKeptValid (cat : Catalog) (renaming : Renaming) : Type 0 where
+  sound : IsSound (schemas_of cat) (now_of cat renaming.overlay)
+  keeping : KeepsSpaces renaming.overlay
+
+one_keeps : (cat : Catalog) → IsValid cat → (before : Renaming) (pair : ObjName × ObjName) (next : Renaming) → schemas_of cat pair.1.schema ≡ true → IsKeptValid cat before → run (all_of cat) (one_pair before pair) ≡ fine next → IsKeptValid cat next
+unfolding one_pair
+one_keeps cat valid before pair next schema kept is =
+    let (renamed, made, last) = bind_fine (all_of cat) (behind_changes before.overlay (renamed_object pair.0 pair.1)) _ next is in
+    let behind : run (look_of cat before.overlay) (renamed_object pair.0 pair.1) ≡ fine renamed = sym (run_behind before.overlay (all_of cat) (renamed_object pair.0 pair.1)) ∙ made in
+    let after : KeepsValid cat before.overlay renamed = pair_keeps cat before.overlay pair.0 pair.1 renamed (record { before = from_valid cat valid; sound = kept.sound }) schema behind in
+    subst (IsKeptValid cat) (fine_is last) (record { sound = after.sound; keeping = more_keep before.overlay renamed.changes kept.keeping after.keeping })
+
+all_keep : (cat : Catalog) → IsValid cat → (before : Renaming) (pairs : List (ObjName × ObjName)) (end : Renaming) → AllByRecursion (λ (pair : ObjName × ObjName). schemas_of cat pair.1.schema ≡ true) pairs → IsKeptValid cat before
+    → run (all_of cat) (over one_pair before pairs) ≡ fine end → IsKeptValid cat end
+all_keep cat valid before [] end schemas kept is = subst (IsKeptValid cat) (fine_is is) kept
+all_keep cat valid before (pair ∷ pairs) end schemas kept is =
+    let (next, one, rest) = bind_fine (all_of cat) (one_pair before pair) (λ state. over one_pair state pairs) end is in
+    all_keep cat valid next pairs end schemas.1 (one_keeps cat valid before pair next schemas.0 kept one) rest
+
+abbrev no_changes : Overlay
+no_changes = finite_map.empty
+
+at_first : (cat : Catalog) → IsValid cat → IsKeptValid cat (record { overlay = finite_map.empty; children = [] })
+at_first cat valid = record {
+  sound = alike_sound (schemas_of cat) (finite_map.get cat.objects) (now_of cat no_changes) (λ name. ap (λ known. placed_over known (finite_map.get cat.objects name)) (sym (finite_map.get-empty object_cmp name))) (from_valid cat valid);
+  keeping = none_keeps;
+}
+
+-- the catalog that the changes make is valid
+catalog_valid : (cat : Catalog) (space : ℕ) (overlay : Overlay) → IsValid cat → IsSound (schemas_of cat) (now_of cat overlay) → KeepsSpaces overlay → IsValid (applied space (changes_in (finite_map.entries overlay)) cat)
+catalog_valid cat space overlay valid sound keeping = to_valid (applied space (changes_in (finite_map.entries overlay)) cat)
+    (λ name there. valid.own_schemas name (sym (ap (λ (schemas : NameSet). finite_map.contains_key schemas name) (all_schemas space (finite_map.entries overlay) cat)) ∙ there))
+    (subst (λ (schemas : NameSet). IsSound (λ name. finite_map.contains_key schemas name) (finite_map.get (applied space (changes_in (finite_map.entries overlay)) cat).objects)) (sym (all_schemas space (finite_map.entries overlay) cat))
+    (alike_sound (schemas_of cat) (now_of cat overlay) (finite_map.get (applied space (changes_in (finite_map.entries overlay)) cat).objects) (λ name. sym (catalog_places space overlay cat name keeping)) sound))
+
+pub rename_keeps : (cat : Catalog) (space : ℕ) (session : SessionState) (pairs : List RenamePair) (choice : Choice) → IsValid cat → run (all_of cat) (rename session pairs) ≡ fine choice → IsValid (catalog_behind space choice cat)
+unfolding rename
+rename_keeps cat space session pairs choice valid is =
+    let (named, _, after_names) = bind_fine (all_of cat) (each (named_pair session.current) pairs) _ choice is in
+    let (x, schemas, after_schemas) = bind_fine (all_of cat) (every schemas_there named) _ choice after_names in
+    let (_, _, after_pairs) = bind_fine (all_of cat) (refuse_if (nat_lt 4096 (length named)) (beyond_limit "4096")) _ choice after_schemas in
+    let (renaming, made, after_all) = bind_fine (all_of cat) (over one_pair (record { overlay = finite_map.empty; children = [] }) named) _ choice after_pairs in
+    let (_, _, last) = bind_fine (all_of cat) (refuse_if (nat_lt 4096 (length renaming.children)) (beyond_limit "4096")) _ choice after_all in
+    let kept : IsKeptValid cat renaming = all_keep cat valid (record { overlay = finite_map.empty; children = [] }) named renaming (all_known cat named x schemas) (at_first cat valid) made in
+    subst (λ (c : Choice). IsValid (catalog_behind space c cat)) {x = Changes (changes_in (finite_map.entries renaming.overlay)) session} (fine_is last) (catalog_valid cat space renaming.overlay valid kept.sound kept.keeping)

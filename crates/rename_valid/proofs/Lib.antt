@@ -1,0 +1,10 @@
+mod Lists
+mod Names
+mod Places
+mod Behind
+mod Sound
+mod Moved
+mod Renamed
+mod Seen
+mod Pair
+pub mod All

@@ -1,0 +1,9 @@
+pub mod Objects
+pub mod Readings
+pub mod Gone
+pub mod Schemas
+pub mod Drops
+pub mod Created
+pub mod ByClass
+pub mod Fits
+pub mod Tables
