@@ -26,3 +26,8 @@ table_outcome session (is.ShowTables schema) = Some (show_tables session schema)
 table_outcome session (is.SetTries value) = Some (set_tries session value)
 table_outcome session (is.Bad error) = Some (refuse error)
 table_outcome session statement = None
+
+-- the same, where it is decided in code; RENAME TABLE isn't so far
+abbrev pub where_decided : {A : Type 0} → Statement → Option A → Option A
+where_decided (is.Rename pairs) found = None
+where_decided statement found = found

@@ -1,0 +1,49 @@
+ghost use Rattle.std.specs.Prelude.{◌≡◌, IfOk, Some, true};
+ghost use Rattle.std.specs.Option.{option_map};
+ghost use Rattle.dd_catalog.specs.Walks.{run};
+ghost use Rattle.dd_catalog.specs.Follow.{sights};
+ghost use Rattle.ddl_decided.specs.Decided.{found_of, AreBefore};
+ghost use Rattle.ddl_plan.specs.Outcome.{outcome, is_decided};
+
+use dd_catalog::Lookup;
+use ddl_decided::Decided;
+use ddl_words::{SessionState, Statement};
+use rules_table::decide_table;
+use std::alloc::{AllocError, Global};
+
+/// Whether a statement is of a kind that is decided: one on schemas, sessions or tables but RENAME TABLE, or a text outside
+/// the grammar.
+pub fn is_decided(statement: &Statement) -> bool
+    ensures { result ≡ is_decided statement.now }
+{
+    matches!(
+        statement,
+        Statement::CreateDatabase { .. }
+            | Statement::DropDatabase { .. }
+            | Statement::UseSchema { .. }
+            | Statement::CreateTable { .. }
+            | Statement::DropTable { .. }
+            | Statement::ShowDatabases
+            | Statement::ShowTables { .. }
+            | Statement::SetTries { .. }
+            | Statement::Bad(_)
+    )
+}
+
+/// What the statement comes to over what is known, which is the need of a key where the next key that it looks at isn't.
+#[tactic(auto, using(crate::proofs::Whole::decided_is))]
+pub fn decide<L: Lookup>(
+    alloc: Global,
+    session: &SessionState,
+    statement: &Statement,
+    look: &L,
+) -> Result<Decided, AllocError>
+    requires { is_decided statement.now ≡ true }
+    ensures exact { IfOk result (λ d. option_map (run (sights (L.known look.now))) (outcome session.now statement.now) ≡ Some (found_of d)) }
+    ensures before { IfOk result (λ d. AreBefore (L.known look.now) d) }
+{
+    match decide_table(alloc, session, statement, look)? {
+        Some(decided) => Ok(decided),
+        None => unreachable!(),
+    }
+}
