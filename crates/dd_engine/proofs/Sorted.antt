@@ -8,7 +8,8 @@ use Rattle.std.specs.BTreeSet.{insert_key}
 use Rattle.std.specs.FinMap as finite_map
 use Rattle.std.specs.FinMap.Entries.{by_order}
 use Rattle.dd_names.specs.Names.{name_cmp}
-use Rattle.dd_engine.specs.Catalog.{NameSet, paired, set_of, in_order}
+use Rattle.dd_catalog.specs.Catalog.{NameSet}
+use Rattle.dd_engine.specs.Catalog.{paired, set_of, in_order}
 
 to_T : (b : Bool) → b ≡ true → T b
 to_T true e = tt

@@ -1,21 +1,22 @@
 -- A history that goes on by one entry.
 use Rattle.std.proofs.Common.{◌≡◌, ℕ, ◌+◌, List, [], ◌∷◌, ◌++◌, length, refl, subst, arith}
 use Rattle.dd_engine.specs.declared.history.Entry.{Entry}
-use Rattle.dd_engine.specs.Catalog.{Catalog, Session}
+use Rattle.ddl_words.specs.declared.session.SessionState.{SessionState}
+use Rattle.dd_catalog.specs.Catalog.{Catalog}
 use Rattle.dd_engine.specs.History.{Step, StepByStep, catalog_left, sessions_left, catalog_after, sessions_after}
 use Rattle.dd_engine.specs.Engine.{IsPlain, ArePlainFrom}
 
-pub StepByStep-push : (cat : Catalog) (sessions : ℕ → Session) (history : List Entry) (e : Entry) → StepByStep cat sessions history
+pub StepByStep-push : (cat : Catalog) (sessions : ℕ → SessionState) (history : List Entry) (e : Entry) → StepByStep cat sessions history
     → Step (catalog_left cat sessions history) (sessions_left cat sessions history) e → StepByStep cat sessions (history ++ e ∷ [])
 StepByStep-push cat sessions [] e steps step = (step, tt)
 StepByStep-push cat sessions (f ∷ history) e steps step = (steps.0, StepByStep-push (catalog_after cat sessions f) (sessions_after cat sessions f) history e steps.1 step)
 
-pub catalog_left-push : (cat : Catalog) (sessions : ℕ → Session) (history : List Entry) (e : Entry)
+pub catalog_left-push : (cat : Catalog) (sessions : ℕ → SessionState) (history : List Entry) (e : Entry)
     → catalog_left cat sessions (history ++ e ∷ []) ≡ catalog_after (catalog_left cat sessions history) (sessions_left cat sessions history) e
 catalog_left-push cat sessions [] e = refl
 catalog_left-push cat sessions (f ∷ history) e = catalog_left-push (catalog_after cat sessions f) (sessions_after cat sessions f) history e
 
-pub sessions_left-push : (cat : Catalog) (sessions : ℕ → Session) (history : List Entry) (e : Entry)
+pub sessions_left-push : (cat : Catalog) (sessions : ℕ → SessionState) (history : List Entry) (e : Entry)
     → sessions_left cat sessions (history ++ e ∷ []) ≡ sessions_after (catalog_left cat sessions history) (sessions_left cat sessions history) e
 sessions_left-push cat sessions [] e = refl
 sessions_left-push cat sessions (f ∷ history) e = sessions_left-push (catalog_after cat sessions f) (sessions_after cat sessions f) history e

@@ -1,13 +1,11 @@
--- What a dictionary knows, and what it keeps for a client.
+-- The schemas of a catalog, and what the dictionary keeps for a new client.
 use Rattle.std.specs.Prelude.{ℕ, List, [], ◌∷◌, Option, None, IsTrue}
 use Rattle.std.specs.Coded.{Coded, coded_list, coded_ℕ}
 use base.Stored.{coded_unit}
 use Rattle.std.specs.FinMap as finite_map
 use Rattle.dd_names.specs.Names.{name_cmp}
-
--- a finite set of names
-abbrev pub NameSet : Type 0
-NameSet = finite_map.FinMap name_cmp (Unit {0})
+use Rattle.ddl_words.specs.declared.session.SessionState.{SessionState}
+use Rattle.dd_catalog.specs.Catalog.{Catalog, NameSet}
 
 abbrev pub coded_names : Coded NameSet
 coded_names = finite_map.code (coded_list coded_ℕ) coded_unit
@@ -25,20 +23,10 @@ set_of names = finite_map.from_sorted (paired names)
 abbrev pub in_order : List (List ℕ) → Type 0
 in_order names = IsTrue (finite_map.is_sorted name_cmp (paired names))
 
--- the schemas, each under its name as it was written
-pub record Catalog : Type 0 where
-  pub schemas : NameSet
-
+-- a catalog of schemas without objects
 abbrev pub of_schemas : NameSet → Catalog
-of_schemas schemas = record { schemas = schemas }
+of_schemas schemas = record { schemas = schemas; objects = finite_map.empty }
 
-abbrev pub empty_catalog : Catalog
-empty_catalog = of_schemas finite_map.empty
-
--- a client's current schema, and how many failed tries for locks end a statement
-pub record Session : Type 0 where
-  pub current : Option (List ℕ)
-  pub tries : ℕ
-
-abbrev pub new_session : Session
-new_session = record { current = None; tries = 31536000 }
+-- a client has no current schema at first, and 31,536,000 tries
+abbrev pub new_session : ℕ → SessionState
+new_session s = record { number = s; current = None; tries = 31536000 }

@@ -2,8 +2,9 @@
 use Rattle.std.specs.Prelude.{ℕ, ◌≡◌, ◌+◌, List, [], ◌∷◌, ◌++◌}
 use Rattle.ddl_words.specs.declared.statement.Statement.{Statement}
 use Rattle.dd_engine.specs.declared.history.Entry.{Entry}
-use Rattle.dd_engine.specs.Catalog.{NameSet, empty_catalog, new_session}
-use Rattle.dd_engine.specs.History.{LegalHistory, after_all, sessions_left, new_sessions}
+use Rattle.dd_catalog.specs.Catalog.{NameSet, empty_catalog}
+use Rattle.dd_engine.specs.Catalog.{of_schemas, new_session}
+use Rattle.dd_engine.specs.History.{LegalHistory, after_all, sessions_left}
 
 -- the entry with this number of the only session, over no disk
 pub record IsPlain (n : ℕ) (e : Entry) : Type 0 where
@@ -20,8 +21,8 @@ ArePlainFrom n (e ∷ history) = IsPlain n e × ArePlainFrom (n + 1) history
 pub record IsSound (schemas : NameSet) (history : List Entry) : Type 0 where
   pub legal : LegalHistory empty_catalog history
   pub plain : ArePlainFrom 0 history
-  pub stands : (after_all empty_catalog history).schemas ≡ schemas
-  pub session : sessions_left empty_catalog new_sessions history 0 ≡ new_session
+  pub stands : after_all empty_catalog history ≡ of_schemas schemas
+  pub session : sessions_left empty_catalog new_session history 0 ≡ new_session 0
 
 -- one entry more, for this statement
 pub record Adds (old new : List Entry) (statement : Statement) : Type 0 where

@@ -1,87 +1,116 @@
 -- The histories that a dictionary of one thread may make.
-use Rattle.std.specs.Prelude.{ℕ, ◌≡◌, ◌+◌, ◌==◌, List, [], ◌∷◌, filter, take, if◌then◌else◌, ⊤}
+use Rattle.std.specs.Prelude.{ℕ, ◌≡◌, ◌+◌, ◌==◌, Bool, true, false, List, [], ◌∷◌, filter, take, Option, Some, None, if◌then◌else◌, ⊤}
+use Rattle.dd_errors.specs.Errors.{ErrorValue}
+use Rattle.ddl_words.specs.declared.session.SessionState.{SessionState}
+use Rattle.dd_catalog.specs.Catalog.{Catalog}
+use Rattle.dd_catalog.specs.Walks.{Found, fine, refused, needs}
+use Rattle.ddl_decided.specs.Choices.{Choice, Same, Changes, Lists, catalog_behind, session_behind, takes_space, IsNewSpace}
+use Rattle.ddl_plan.specs.Outcome.{outcome_over}
 use Rattle.dd_engine.specs.declared.history.Answer.{Answer}
 use Rattle.dd_engine.specs.declared.history.Answer.TheVariants.{Done, Rows, Error, Memory}
 use Rattle.dd_engine.specs.declared.history.Entry.{Entry}
-use Rattle.dd_engine.specs.Catalog.{Catalog, Session, new_session}
-use Rattle.dd_engine.specs.Outcome.{Outcome, Refused, Listed, Changed, NotRun, applied, outcome}
+use Rattle.dd_engine.specs.Catalog.{new_session}
 
--- the answer says the outcome, or that there was no memory
-abbrev pub Answers : Outcome → Answer → Type 0
-Answers (Changed changes ses) Done = ⊤
-Answers (Changed changes ses) (Rows listing) = ⊥
-Answers (Changed changes ses) (Error error) = ⊥
-Answers (Changed changes ses) Memory = ⊤
-Answers (Listed l) Done = ⊥
-Answers (Listed l) (Rows listing) = listing ≡ l
-Answers (Listed l) (Error error) = ⊥
-Answers (Listed l) Memory = ⊤
-Answers (Refused r) Done = ⊥
-Answers (Refused r) (Rows listing) = ⊥
-Answers (Refused r) (Error error) = error ≡ r
-Answers (Refused r) Memory = ⊤
-Answers NotRun answer = ⊥
+-- ## The answer
 
--- only what was done changes the catalog
-abbrev pub next_catalog : Outcome → Answer → Catalog → Catalog
-next_catalog (Changed changes ses) Done cat = applied changes cat
-next_catalog (Changed changes ses) (Rows listing) cat = cat
-next_catalog (Changed changes ses) (Error error) cat = cat
-next_catalog (Changed changes ses) Memory cat = cat
-next_catalog (Listed l) answer cat = cat
-next_catalog (Refused r) answer cat = cat
-next_catalog NotRun answer cat = cat
+-- what changes something, or nothing, is done; what lists is answered by its rows; or there was no memory
+abbrev pub AnswersChoice : Choice → Answer → Type 0
+AnswersChoice Same Done = ⊤
+AnswersChoice Same Memory = ⊤
+AnswersChoice Same (Rows listing) = ⊥
+AnswersChoice Same (Error error) = ⊥
+AnswersChoice (Changes changes session) Done = ⊤
+AnswersChoice (Changes changes session) Memory = ⊤
+AnswersChoice (Changes changes session) (Rows listing) = ⊥
+AnswersChoice (Changes changes session) (Error error) = ⊥
+AnswersChoice (Lists l) (Rows listing) = listing ≡ l
+AnswersChoice (Lists l) Memory = ⊤
+AnswersChoice (Lists l) Done = ⊥
+AnswersChoice (Lists l) (Error error) = ⊥
 
--- and the session
-abbrev pub next_session : Outcome → Answer → Session → Session
-next_session (Changed changes left) Done ses = left
-next_session (Changed changes left) (Rows listing) ses = ses
-next_session (Changed changes left) (Error error) ses = ses
-next_session (Changed changes left) Memory ses = ses
-next_session (Listed l) answer ses = ses
-next_session (Refused r) answer ses = ses
-next_session NotRun answer ses = ses
+-- what is refused is answered by its error
+abbrev pub AnswersError : ErrorValue → Answer → Type 0
+AnswersError r (Error error) = error ≡ r
+AnswersError r Memory = ⊤
+AnswersError r Done = ⊥
+AnswersError r (Rows listing) = ⊥
 
--- the outcome of an entry's statement for its session
-abbrev pub outcome_of : Catalog → (ℕ → Session) → Entry → Outcome
-outcome_of cat sessions e = outcome cat (sessions e.session) e.statement
+abbrev pub AnswersFound : Found ErrorValue Choice → Answer → Type 0
+AnswersFound (fine choice) answer = AnswersChoice choice answer
+AnswersFound (refused r) answer = AnswersError r answer
+AnswersFound (needs key) answer = ⊥
 
--- One entry is right: it says its statement's outcome, and has the numbers that this takes, which are none so far.
-pub record Step (cat : Catalog) (sessions : ℕ → Session) (e : Entry) : Type 0 where
-  pub answers : Answers (outcome_of cat sessions e) e.answer
-  pub spaces : e.spaces ≡ []
+-- no answer is right to a statement of a kind that isn't decided
+abbrev pub Answers : Option (Found ErrorValue Choice) → Answer → Type 0
+Answers (Some found) answer = AnswersFound found answer
+Answers None answer = ⊥
 
-abbrev pub catalog_after : Catalog → (ℕ → Session) → Entry → Catalog
-catalog_after cat sessions e = next_catalog (outcome_of cat sessions e) e.answer cat
+-- ## What is done
 
-abbrev pub sessions_after : Catalog → (ℕ → Session) → Entry → ℕ → Session
-sessions_after cat sessions e s = if s == e.session then next_session (outcome_of cat sessions e) e.answer (sessions s) else sessions s
+abbrev pub choice_found : Found ErrorValue Choice → Choice
+choice_found (fine choice) = choice
+choice_found (refused r) = Same
+choice_found (needs key) = Same
+
+abbrev pub choice_in : Option (Found ErrorValue Choice) → Choice
+choice_in (Some found) = choice_found found
+choice_in None = Same
+
+-- only what was done changes something
+abbrev pub done_of : Choice → Answer → Choice
+done_of choice Done = choice
+done_of choice (Rows listing) = Same
+done_of choice (Error error) = Same
+done_of choice Memory = Same
+
+-- what an entry does
+abbrev pub effect : Catalog → (ℕ → SessionState) → Entry → Choice
+effect cat sessions e = done_of (choice_in (outcome_over cat (sessions e.session) e.statement)) e.answer
+
+-- the numbers that an entry takes: one that is new where it makes a tablespace, and else none
+abbrev pub TakesSpaces : Catalog → Bool → List ℕ → Type 0
+TakesSpaces cat false spaces = spaces ≡ []
+TakesSpaces cat true spaces = (space : ℕ) × (spaces ≡ space ∷ []) × IsNewSpace cat space
+
+abbrev pub space_in : List ℕ → ℕ
+space_in [] = 0
+space_in (space ∷ spaces) = space
+
+-- ## Histories
+
+-- One entry is right: it says its statement's outcome, and has the numbers that this takes.
+pub record Step (cat : Catalog) (sessions : ℕ → SessionState) (e : Entry) : Type 0 where
+  pub answers : Answers (outcome_over cat (sessions e.session) e.statement) e.answer
+  pub spaces : TakesSpaces cat (takes_space (effect cat sessions e)) e.spaces
+
+abbrev pub catalog_after : Catalog → (ℕ → SessionState) → Entry → Catalog
+catalog_after cat sessions e = catalog_behind (space_in e.spaces) (effect cat sessions e) cat
+
+abbrev pub sessions_after : Catalog → (ℕ → SessionState) → Entry → ℕ → SessionState
+sessions_after cat sessions e s = if s == e.session then session_behind (effect cat sessions e) (sessions s) else sessions s
 
 -- each entry is a step from what those before it leave
-abbrev pub StepByStep : Catalog → (ℕ → Session) → List Entry → Type 0
+abbrev pub StepByStep : Catalog → (ℕ → SessionState) → List Entry → Type 0
 StepByStep cat sessions [] = Unit {0}
 StepByStep cat sessions (e ∷ history) = Step cat sessions e × StepByStep (catalog_after cat sessions e) (sessions_after cat sessions e) history
 
 -- the catalog and the sessions that a history leaves
-abbrev pub catalog_left : Catalog → (ℕ → Session) → List Entry → Catalog
+abbrev pub catalog_left : Catalog → (ℕ → SessionState) → List Entry → Catalog
 catalog_left cat sessions [] = cat
 catalog_left cat sessions (e ∷ history) = catalog_left (catalog_after cat sessions e) (sessions_after cat sessions e) history
 
-abbrev pub sessions_left : Catalog → (ℕ → Session) → List Entry → ℕ → Session
+abbrev pub sessions_left : Catalog → (ℕ → SessionState) → List Entry → ℕ → SessionState
 sessions_left cat sessions [] = sessions
 sessions_left cat sessions (e ∷ history) = sessions_left (catalog_after cat sessions e) (sessions_after cat sessions e) history
 
--- every session begins with no current schema and the default tries
-abbrev pub new_sessions : ℕ → Session
-new_sessions s = new_session
-
--- The history is one that a dictionary of one thread makes from `base`.
+-- The history is one that a dictionary of one thread makes from `base`; every session begins with no current schema and the
+-- default tries.
 abbrev pub LegalHistory : Catalog → List Entry → Type 0
-LegalHistory base history = StepByStep base new_sessions history
+LegalHistory base history = StepByStep base new_session history
 
 -- the catalog after all entries, and after the first k of them
 abbrev pub after_all : Catalog → List Entry → Catalog
-after_all base history = catalog_left base new_sessions history
+after_all base history = catalog_left base new_session history
 
 abbrev pub after : Catalog → List Entry → ℕ → Catalog
 after base history k = after_all base (take k history)

@@ -1,9 +1,13 @@
 // What a statement is answered over a set of schemas, and what it makes of them.
 ghost use Rattle.std.specs.Prelude.{◌≡◌, ◌∷◌, [], IfOk, map, codes, true};
 ghost use Rattle.std.specs.FinMap as finite_map;
-ghost use Rattle.dd_engine.specs.Catalog.{Catalog, new_session, of_schemas};
-ghost use Rattle.dd_engine.specs.Outcome.{Refused, outcome, is_run, row_of, schema_exists};
-ghost use Rattle.dd_engine.specs.History.{Answers, next_catalog};
+ghost use Rattle.ddl_words.specs.declared.session.SessionState.{SessionState};
+ghost use Rattle.ddl_decided.specs.Choices.{Lists, catalog_behind};
+ghost use Rattle.rules_schema.specs.Listings.{row_of};
+ghost use Rattle.ddl_plan.specs.Outcome.{outcome_over};
+ghost use Rattle.dd_engine.specs.Catalog.{new_session, of_schemas};
+ghost use Rattle.dd_engine.specs.Outcome.{is_run, schema_created, schemas_listed};
+ghost use Rattle.dd_engine.specs.History.{Answers, AnswersChoice, AnswersError, AnswersFound, choice_found, choice_in, done_of};
 
 use crate::history::Answer;
 use crate::name_set::NameSet;
@@ -11,6 +15,7 @@ use dd_errors::SqlError;
 use dd_names::{List, Name, Text, TryCopy, is_system_schema};
 use dd_objects::{Cell, ListRow, Listing};
 use ddl_words::Statement;
+use rules_named::refusals::schema_present;
 use std::alloc::{AllocError, Global};
 
 /// Whether a statement is of a kind that is run: CREATE DATABASE, SHOW DATABASES, or a text outside the grammar.
@@ -24,10 +29,11 @@ pub fn is_run(statement: &Statement) -> bool
 }
 
 /// Answers a statement, and leaves the schemas as the answer says.
+#[tactic(auto, using(crate::proofs::Outcomes::created, crate::proofs::Outcomes::listed))]
 pub fn answer_to(alloc: Global, schemas: &mut NameSet, statement: &Statement) -> Answer
     requires { is_run statement.now ≡ true }
-    ensures answers { Answers (outcome (of_schemas schemas.old) new_session statement.now) result }
-    ensures next { next_catalog (outcome (of_schemas schemas.old) new_session statement.now) result (of_schemas schemas.old) ≡ of_schemas schemas.new }
+    ensures answers { Answers (outcome_over (of_schemas schemas.old) (new_session 0) statement.now) result }
+    ensures next { catalog_behind 0 (done_of (choice_in (outcome_over (of_schemas schemas.old) (new_session 0) statement.now)) result) (of_schemas schemas.old) ≡ of_schemas schemas.new }
 {
     match statement {
         Statement::CreateDatabase {
@@ -41,8 +47,7 @@ pub fn answer_to(alloc: Global, schemas: &mut NameSet, statement: &Statement) ->
 }
 
 fn refused(error: &SqlError) -> Answer
-    ensures answers { Answers (Refused error.now) result }
-    ensures next { (cat : Catalog) → next_catalog (Refused error.now) result cat ≡ cat }
+    ensures { AnswersError error.now result }
 {
     match error.copy() {
         Ok(error) => Answer::Error(error),
@@ -51,14 +56,14 @@ fn refused(error: &SqlError) -> Answer
 }
 
 fn create_database(alloc: Global, schemas: &mut NameSet, if_not_exists: bool, name: &Name) -> Answer
-    ensures answers { Answers (outcome (of_schemas schemas.old) new_session (Statement.CreateDatabase if_not_exists name.now)) result }
-    ensures next { next_catalog (outcome (of_schemas schemas.old) new_session (Statement.CreateDatabase if_not_exists name.now)) result (of_schemas schemas.old) ≡ of_schemas schemas.new }
+    ensures answers { (session : SessionState) → AnswersFound (schema_created schemas.old session if_not_exists name.now) result }
+    ensures next { (session : SessionState) → catalog_behind 0 (done_of (choice_found (schema_created schemas.old session if_not_exists name.now)) result) (of_schemas schemas.old) ≡ of_schemas schemas.new }
 {
     if schemas.contains(name) || is_system_schema(name.as_str()) {
         if if_not_exists {
             return Answer::Done;
         }
-        return match schema_exists(alloc, name) {
+        return match schema_present(alloc, name) {
             Ok(error) => Answer::Error(error),
             Err(_) => Answer::Memory,
         };
@@ -72,15 +77,8 @@ fn create_database(alloc: Global, schemas: &mut NameSet, if_not_exists: bool, na
     }
 }
 
-#[tactic(auto, unfolding(dd_errors::specs::Errors::form_of))]
-fn schema_exists(alloc: Global, name: &Name) -> Result<SqlError, AllocError>
-    ensures { IfOk result (λ error. error ≡ schema_exists name.now) }
-{
-    Ok(SqlError::of(1007, one(alloc, name.to_text()?)?))
-}
-
 fn show_databases(alloc: Global, schemas: &NameSet) -> Answer
-    ensures { Answers (outcome (of_schemas schemas.now) new_session Statement.ShowDatabases) result }
+    ensures { AnswersChoice (Lists (schemas_listed schemas.now)) result }
 {
     match databases(alloc, schemas) {
         Ok(listing) => Answer::Rows(listing),
@@ -89,15 +87,21 @@ fn show_databases(alloc: Global, schemas: &NameSet) -> Answer
 }
 
 fn databases(alloc: Global, schemas: &NameSet) -> Result<Listing, AllocError>
-    ensures header { IfOk result (λ listing. listing.header ≡ codes "Database" ∷ []) }
-    ensures rows { IfOk result (λ listing. listing.rows ≡ map row_of (finite_map.keys schemas.now)) }
+    ensures { IfOk result (λ listing. listing ≡ schemas_listed schemas.now) }
 {
     let header = one(alloc, Text::of(alloc, "Database")?)?;
+    let rows = rows_of(alloc, schemas)?;
+    Ok(Listing { header, rows })
+}
+
+fn rows_of(alloc: Global, schemas: &NameSet) -> Result<List<ListRow>, AllocError>
+    ensures { IfOk result (λ rows. rows ≡ map row_of (finite_map.keys schemas.now)) }
+{
     let mut rows = List::new(alloc);
     'names: for name in schemas.iter() {
         rows.push(row_of(alloc, name)?)?;
     }
-    Ok(Listing { header, rows })
+    Ok(rows)
 }
 
 fn row_of(alloc: Global, name: &Name) -> Result<ListRow, AllocError>

@@ -3,6 +3,7 @@
 
 mod answer_to;
 mod history;
+mod laws;
 mod name_set;
 mod plain_engine;
 #[cfg(test)]
@@ -10,4 +11,5 @@ mod tests;
 
 pub use answer_to::is_run;
 pub use history::{Answer, Entry, History};
+pub use laws::histories_keep_validity;
 pub use plain_engine::PlainEngine;

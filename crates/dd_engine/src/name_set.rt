@@ -14,9 +14,10 @@ pub struct NameSet {
 }
 
 impl Model for NameSet {
+    ghost use Rattle.dd_catalog.specs.Catalog as all;
     ghost use Rattle.dd_engine.specs.Catalog as catalog;
 
-    ghost Value = { catalog.NameSet };
+    ghost Value = { all.NameSet };
 
     ghost coded = { catalog.coded_names };
 

@@ -1,6 +1,6 @@
 ghost use Rattle.std.specs.Prelude.{◌≡◌, ◌<◌, ◌^◌, [], IfErr, OnOk, length, true};
 ghost use Rattle.dd_engine.specs.Outcome.{is_run};
-ghost use Rattle.dd_engine.specs.Catalog.{empty_catalog};
+ghost use Rattle.dd_catalog.specs.Catalog.{empty_catalog};
 ghost use Rattle.dd_engine.specs.Engine.{Adds, ArePlainFrom};
 ghost use Rattle.dd_engine.specs.History.{LegalHistory};
 

@@ -4,7 +4,7 @@ use Rattle.std.specs.List.{AllByRecursion}
 use Rattle.std.proofs.lemmas.Bool.Decides.{nat_tests}
 use Rattle.ddl_words.specs.declared.statement.Statement.{Statement}
 use Rattle.dd_engine.specs.declared.history.Entry.{Entry}
-use Rattle.dd_engine.specs.Catalog.{empty_catalog}
+use Rattle.dd_catalog.specs.Catalog.{empty_catalog}
 use Rattle.dd_engine.specs.Engine.{ArePlainFrom}
 use Rattle.dd_engine.specs.History.{part, LegalHistory, NumberedFrom}
 use Rattle.script_read.specs.declared.script.Script.{Script}

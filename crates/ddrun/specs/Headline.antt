@@ -6,7 +6,7 @@ use Rattle.std.specs.Io.KnownBytes.{Keeps, Appends}
 use Rattle.edge_io.specs.Content.{AppendsPrefix}
 use Rattle.ddl_words.specs.declared.statement.Statement.{Statement}
 use Rattle.dd_engine.specs.declared.history.Entry.{Entry}
-use Rattle.dd_engine.specs.Catalog.{empty_catalog}
+use Rattle.dd_catalog.specs.Catalog.{empty_catalog}
 use Rattle.dd_engine.specs.History.{part, LegalHistory, IsNumbered}
 use Rattle.script_cut.specs.declared.fault.ScriptFault.{ScriptFault}
 use Rattle.script_read.specs.declared.script.Script.{Script}

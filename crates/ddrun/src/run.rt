@@ -3,7 +3,7 @@ ghost use Rattle.std.specs.Prelude.{◌≡◌, ◌↔◌, ◌+◌, ◌≤◌, �
 ghost use Rattle.std.specs.Io.KnownBytes.{IsAtEnd};
 ghost use Rattle.edge_io.specs.Causes.{Rose};
 ghost use Rattle.edge_io.specs.Content.{ConsumesAtMost};
-ghost use Rattle.dd_engine.specs.Catalog.{empty_catalog};
+ghost use Rattle.dd_catalog.specs.Catalog.{empty_catalog};
 ghost use Rattle.dd_engine.specs.Engine.{ArePlainFrom};
 ghost use Rattle.dd_engine.specs.History.{LegalHistory};
 ghost use Rattle.ddrun.specs.Headline.{AllAnswered, AreRun, FirstAnswered, Headline, InputIs, IsDone, IsGood, IsHistoryOf};

@@ -1,5 +1,5 @@
 use Rattle.std.proofs.Common.{◌≡◌, length, map, take}
-use Rattle.dd_engine.specs.Catalog.{empty_catalog}
+use Rattle.dd_catalog.specs.Catalog.{empty_catalog}
 use Rattle.dd_engine.specs.Engine.{ArePlainFrom}
 use Rattle.dd_engine.specs.History.{LegalHistory}
 use Rattle.ddrun.specs.Ending.{statement_of_entry}

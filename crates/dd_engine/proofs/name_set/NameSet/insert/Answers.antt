@@ -1,6 +1,6 @@
 use Rattle.std.proofs.Common.{ap, sym, ◌∙◌, subst}
 use Rattle.std.specs.FinMap as finite_map
-use Rattle.dd_engine.specs.Catalog.{NameSet}
+use Rattle.dd_catalog.specs.Catalog.{NameSet}
 use Rattle.dd_engine.proofs.Sorted.{Inserted, inserted}
 use Rattle.dd_engine.proofs.name_set.NameSet.insert.Goals as goal
 

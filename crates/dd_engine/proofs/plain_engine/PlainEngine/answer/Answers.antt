@@ -15,6 +15,7 @@ now_sound c =
     let is_next : IsNext old new history e = record {
       plain = record { session = refl; number = omega (arith, c.len-number.ensures, c.try_reserve.ensures.len, c.self.inside.entries.ok.0); stamp = refl };
       spaces = c.new.ensures;
+      run = c.requires.run;
       answers = c.answer_to-answer.ensures.answers;
       next = c.answer_to-answer.ensures.next;
     } in
