@@ -1,0 +1,12 @@
+//! The texts of SHOW CREATE TABLE, SHOW CREATE VIEW and SHOW CREATE DATABASE (MySQL 8.0 Reference Manual, 13.7.7).
+#![tactic(auto)]
+
+mod columns;
+mod keys;
+mod tables;
+#[cfg(test)]
+mod tests;
+mod views;
+
+pub use tables::{show_schema, show_table};
+pub use views::show_view;
