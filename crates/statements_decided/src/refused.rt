@@ -68,7 +68,10 @@ pub const TABLES: [(&str, &str); 28] = [
         "CREATE TABLE T (a INT);CREATE TABLE t (a INT);SHOW TABLES",
         "Tables_in_d|T|t",
     ),
-    ("DROP DATABASE d;CREATE TABLE t (i INT)", "1046 No database selected"),
+    (
+        "DROP DATABASE d;CREATE TABLE t (i INT)",
+        "1046 No database selected",
+    ),
     ("CREATE TABLE f.t (i INT)", "1049 Unknown database 'f'"),
     (
         "CREATE TABLE t (i INT);CREATE TABLE t (i INT)",
@@ -78,9 +81,15 @@ pub const TABLES: [(&str, &str); 28] = [
         "CREATE TABLE t (i INT);CREATE TABLE d.t (a INT, a INT)",
         "1050 Table 't' already exists",
     ),
-    ("CREATE TABLE t (i INT);CREATE TABLE IF NOT EXISTS t (a INT, a INT)", "SAME"),
+    (
+        "CREATE TABLE t (i INT);CREATE TABLE IF NOT EXISTS t (a INT, a INT)",
+        "SAME",
+    ),
     ("CREATE TABLE e.t (i INT);CREATE TABLE t (i INT)", "OK"),
-    ("CREATE TABLE t (KEY k (a))", "1113 A table must have at least 1 column"),
+    (
+        "CREATE TABLE t (KEY k (a))",
+        "1113 A table must have at least 1 column",
+    ),
     (
         "CREATE TABLE t (a INT AUTO_INCREMENT)",
         "1075 Incorrect table definition; there can be only one auto column and it must be defined as a key",
@@ -93,7 +102,10 @@ pub const TABLES: [(&str, &str); 28] = [
         "CREATE TABLE t (a INT AUTO_INCREMENT, b INT, KEY (b, a))",
         "1075 Incorrect table definition; there can be only one auto column and it must be defined as a key",
     ),
-    ("CREATE TABLE t (a INT AUTO_INCREMENT, b INT, KEY (a, b))", "OK"),
+    (
+        "CREATE TABLE t (a INT AUTO_INCREMENT, b INT, KEY (a, b))",
+        "OK",
+    ),
     ("DROP TABLE t", "1051 Unknown table 'd.t'"),
     ("DROP TABLE t, e.u, w", "1051 Unknown table 'd.t,e.u,d.w'"),
     ("DROP TABLE IF EXISTS t", "SAME"),
@@ -111,7 +123,10 @@ pub const TABLES: [(&str, &str); 28] = [
         "CREATE TABLE t (i INT);DROP TABLE t, d.t",
         "1066 Not unique table/alias: 't'",
     ),
-    ("CREATE TABLE t (i INT);DROP TABLE t, e.t", "1051 Unknown table 'e.t'"),
+    (
+        "CREATE TABLE t (i INT);DROP TABLE t, e.t",
+        "1051 Unknown table 'e.t'",
+    ),
     (
         "CREATE TABLE p (id INT PRIMARY KEY);CREATE TABLE c (id INT PRIMARY KEY, p INT, FOREIGN KEY (p) REFERENCES p (id));DROP TABLE p",
         "3730 Cannot drop table 'p' referenced by a foreign key constraint 'c_ibfk_1' on table 'c'.",
@@ -174,12 +189,18 @@ pub const COLUMNS: [(&str, &str); 34] = [
         "CREATE TABLE t (a TINYINT UNSIGNED DEFAULT -1)",
         "1067 Invalid default value for 'a'",
     ),
-    ("CREATE TABLE t (a BIGINT DEFAULT -9223372036854775808)", "OK"),
+    (
+        "CREATE TABLE t (a BIGINT DEFAULT -9223372036854775808)",
+        "OK",
+    ),
     (
         "CREATE TABLE t (a BIGINT DEFAULT -9223372036854775809)",
         "1067 Invalid default value for 'a'",
     ),
-    ("CREATE TABLE t (a BIGINT UNSIGNED DEFAULT 18446744073709551615)", "OK"),
+    (
+        "CREATE TABLE t (a BIGINT UNSIGNED DEFAULT 18446744073709551615)",
+        "OK",
+    ),
     (
         "CREATE TABLE t (a BIGINT UNSIGNED DEFAULT 18446744073709551616)",
         "1067 Invalid default value for 'a'",
@@ -244,7 +265,10 @@ pub const KEYS: [(&str, &str); 20] = [
         "CREATE TABLE t (a INT, CONSTRAINT `PRIMARY` UNIQUE (a))",
         "1280 Incorrect index name 'PRIMARY'",
     ),
-    ("CREATE TABLE t (a INT, CONSTRAINT `PRIMARY` UNIQUE k (a))", "OK"),
+    (
+        "CREATE TABLE t (a INT, CONSTRAINT `PRIMARY` UNIQUE k (a))",
+        "OK",
+    ),
     (
         "CREATE TABLE t (a INT, KEY (a, b))",
         "1072 Key column 'b' doesn't exist in table",
@@ -266,7 +290,10 @@ pub const KEYS: [(&str, &str); 20] = [
         "CREATE TABLE t (a INT, KEY (a), KEY (a), KEY a_2 (a))",
         "1061 Duplicate key name 'a_2'",
     ),
-    ("CREATE TABLE t (a INT, KEY a_2 (a), KEY (a), KEY (a))", "OK"),
+    (
+        "CREATE TABLE t (a INT, KEY a_2 (a), KEY (a), KEY (a))",
+        "OK",
+    ),
     ("CREATE TABLE t (`primary` INT, KEY (`primary`))", "OK"),
     (
         "CREATE TABLE t (`primary` INT, KEY (`primary`), KEY primary_2 (`primary`))",
@@ -280,7 +307,10 @@ pub const KEYS: [(&str, &str); 20] = [
         "CREATE TABLE t (a INT DEFAULT NULL PRIMARY KEY)",
         "1171 All parts of a PRIMARY KEY must be NOT NULL; if you need NULL in a key, use UNIQUE instead",
     ),
-    ("CREATE TABLE t (a INT, b INT, PRIMARY KEY (b, a), UNIQUE (a))", "OK"),
+    (
+        "CREATE TABLE t (a INT, b INT, PRIMARY KEY (b, a), UNIQUE (a))",
+        "OK",
+    ),
     (
         "CREATE TABLE t (a1 INT, a2 INT, a3 INT, a4 INT, a5 INT, a6 INT, a7 INT, a8 INT, a9 INT, a10 INT, a11 INT, a12 INT, a13 INT, a14 INT, a15 INT, a16 INT, KEY (a1, a2, a3, a4, a5, a6, a7, a8, a9, a10, a11, a12, a13, a14, a15, a16))",
         "OK",
@@ -297,7 +327,10 @@ pub const KEYS: [(&str, &str); 20] = [
 
 /// Behind tables `p`, with the primary key `id` and the index `k` on `x` and `y`, and `q`, with the unique columns `u` and `s`.
 pub const FOREIGN_KEYS: [(&str, &str); 23] = [
-    ("CREATE TABLE c (a INT, FOREIGN KEY (a) REFERENCES p (id))", "OK"),
+    (
+        "CREATE TABLE c (a INT, FOREIGN KEY (a) REFERENCES p (id))",
+        "OK",
+    ),
     (
         "CREATE TABLE c (a INT, FOREIGN KEY (a) REFERENCES p (id, x))",
         "1239 Incorrect foreign key definition for 'foreign key without name': Key reference and table reference don't match",
@@ -342,7 +375,10 @@ pub const FOREIGN_KEYS: [(&str, &str); 23] = [
         "CREATE TABLE e.c (a INT, FOREIGN KEY (a) REFERENCES p (id))",
         "1824 Failed to open the referenced table 'p'",
     ),
-    ("CREATE TABLE e.c (a INT, FOREIGN KEY (a) REFERENCES d.p (id))", "OK"),
+    (
+        "CREATE TABLE e.c (a INT, FOREIGN KEY (a) REFERENCES d.p (id))",
+        "OK",
+    ),
     (
         "CREATE TABLE c (a INT, FOREIGN KEY (a) REFERENCES p (y))",
         "1822 Failed to add the foreign key constraint. Missing index for constraint 'c_ibfk_1' in the referenced table 'p'",
@@ -363,8 +399,14 @@ pub const FOREIGN_KEYS: [(&str, &str); 23] = [
         "CREATE TABLE c (a INT UNSIGNED, FOREIGN KEY (a) REFERENCES p (id))",
         "3780 Referencing column 'a' and referenced column 'id' in foreign key constraint 'c_ibfk_1' are incompatible.",
     ),
-    ("CREATE TABLE c (a CHAR(3), FOREIGN KEY (a) REFERENCES q (s))", "OK"),
-    ("CREATE TABLE c (a BOOL, FOREIGN KEY (a) REFERENCES q (u))", "OK"),
+    (
+        "CREATE TABLE c (a CHAR(3), FOREIGN KEY (a) REFERENCES q (s))",
+        "OK",
+    ),
+    (
+        "CREATE TABLE c (a BOOL, FOREIGN KEY (a) REFERENCES q (u))",
+        "OK",
+    ),
     (
         "CREATE TABLE c (a INT NOT NULL, FOREIGN KEY (a) REFERENCES p (id) ON DELETE SET NULL)",
         "1830 Column 'a' cannot be NOT NULL: needed in a foreign key constraint 'c_ibfk_1' SET NULL",
@@ -379,60 +421,12 @@ pub const FOREIGN_KEYS: [(&str, &str); 23] = [
     ),
 ];
 
-pub const RENAMES: [(&str, &str); 14] = [
-    ("RENAME TABLE t TO u", "1146 Table 'd.t' doesn't exist"),
-    ("RENAME TABLE f.t TO u", "1049 Unknown database 'f'"),
-    ("CREATE TABLE t (i INT);RENAME TABLE t TO f.u", "1049 Unknown database 'f'"),
+pub const OF_TWO_THE_FIRST: [(&str, &str); 20] = [
+    // The current schema is asked for before any other fault, and schemas before objects.
     (
-        "DROP DATABASE d;RENAME TABLE e.t TO u",
+        "DROP DATABASE d;CREATE TABLE t (a INT, a INT)",
         "1046 No database selected",
     ),
-    (
-        "CREATE TABLE t (i INT);CREATE TABLE u (i INT);RENAME TABLE t TO u",
-        "1050 Table 'u' already exists",
-    ),
-    (
-        "CREATE TABLE t (i INT);RENAME TABLE t TO t",
-        "1050 Table 't' already exists",
-    ),
-    (
-        "CREATE TABLE t (i INT);RENAME TABLE t TO u;SHOW TABLES",
-        "Tables_in_d|u",
-    ),
-    (
-        "CREATE TABLE t (i INT);RENAME TABLE t TO e.u;SHOW TABLES FROM e",
-        "Tables_in_e|u",
-    ),
-    (
-        "CREATE TABLE a (i INT);CREATE TABLE b (j INT);RENAME TABLE a TO x, b TO a, x TO b;SHOW TABLES",
-        "Tables_in_d|a|b",
-    ),
-    (
-        "CREATE TABLE a (i INT);RENAME TABLE a TO b, a TO c",
-        "1146 Table 'd.a' doesn't exist",
-    ),
-    (
-        "CREATE TABLE p (id INT PRIMARY KEY);CREATE TABLE c (a INT, FOREIGN KEY (a) REFERENCES p (id));RENAME TABLE c TO abcdefghijabcdefghijabcdefghijabcdefghijabcdefghijabcdefghij",
-        "1059 Identifier name 'abcdefghijabcdefghijabcdefghijabcdefghijabcdefghijabcdefghij_ibfk_1' is too long",
-    ),
-    (
-        "CREATE TABLE p (id INT PRIMARY KEY);CREATE TABLE c (a INT, FOREIGN KEY (a) REFERENCES p (id));CREATE TABLE b (a INT, CONSTRAINT b2_ibfk_1 FOREIGN KEY (a) REFERENCES p (id));RENAME TABLE c TO b2",
-        "1826 Duplicate foreign key constraint name 'b2_ibfk_1'",
-    ),
-    (
-        "CREATE TABLE p (id INT PRIMARY KEY);CREATE TABLE c (a INT, FOREIGN KEY (a) REFERENCES p (id));RENAME TABLE p TO q, c TO b;DROP TABLE q",
-        "3730 Cannot drop table 'q' referenced by a foreign key constraint 'b_ibfk_1' on table 'b'.",
-    ),
-    (
-        "CREATE TABLE s (id INT PRIMARY KEY, up INT, FOREIGN KEY (up) REFERENCES s (id));RENAME TABLE s TO t;DROP TABLE t",
-        "OK",
-    ),
-];
-
-pub const OF_TWO_THE_FIRST: [(&str, &str); 22] = [
-    // The current schema is asked for before any other fault, and schemas before objects.
-    ("DROP DATABASE d;CREATE TABLE t (a INT, a INT)", "1046 No database selected"),
-    ("CREATE TABLE t (i INT);RENAME TABLE x TO y, t TO f.t", "1049 Unknown database 'f'"),
     ("DROP TABLE x, x, f.t", "1049 Unknown database 'f'"),
     // Presence before the elements.
     (
@@ -508,34 +502,27 @@ pub const OF_TWO_THE_FIRST: [(&str, &str); 22] = [
         "CREATE TABLE p (id INT PRIMARY KEY);CREATE TABLE c (a INT NOT NULL, CONSTRAINT n FOREIGN KEY (a) REFERENCES p (id), CONSTRAINT n FOREIGN KEY (a) REFERENCES p (id) ON UPDATE SET NULL)",
         "1830 Column 'a' cannot be NOT NULL: needed in a foreign key constraint 'n' SET NULL",
     ),
-    // DROP TABLE and RENAME TABLE.
     ("DROP TABLE x, y, y", "1066 Not unique table/alias: 'y'"),
-    (
-        "CREATE TABLE t (i INT);RENAME TABLE t TO u, x TO y, u TO u",
-        "1146 Table 'd.x' doesn't exist",
-    ),
 ];
 
 /// Where a view `v` is there.
-pub const VIEWS: [(&str, &str); 8] = [
+pub const VIEWS: [(&str, &str); 6] = [
     ("SHOW TABLES", "Tables_in_d|v"),
     ("CREATE TABLE v (i INT)", "1050 Table 'v' already exists"),
     ("CREATE TABLE IF NOT EXISTS v (i INT)", "SAME"),
     ("DROP TABLE v", "1051 Unknown table 'd.v'"),
-    ("CREATE TABLE t (i INT);DROP TABLE IF EXISTS v, t;SHOW TABLES", "Tables_in_d|v"),
+    (
+        "CREATE TABLE t (i INT);DROP TABLE IF EXISTS v, t;SHOW TABLES",
+        "Tables_in_d|v",
+    ),
     (
         "CREATE TABLE c (a INT, FOREIGN KEY (a) REFERENCES v (i))",
         "1824 Failed to open the referenced table 'v'",
     ),
-    (
-        "RENAME TABLE v TO e.v",
-        "1450 Changing schema from 'd' to 'e' is not allowed.",
-    ),
-    ("RENAME TABLE v TO w;SHOW TABLES", "Tables_in_d|w"),
 ];
 
 /// Texts of a front, a piece so many times and a back, with their answers.
-pub const LONG: [(&str, &str, usize, &str, &str); 9] = [
+pub const LONG: [(&str, &str, usize, &str, &str); 5] = [
     ("CREATE TABLE t (a INT", ", KEY (a)", 64, ")", "OK"),
     (
         "CREATE TABLE t (a INT",
@@ -553,34 +540,6 @@ pub const LONG: [(&str, &str, usize, &str, &str); 9] = [
         "1117 Too many columns",
     ),
     (
-        "CREATE TABLE t (a INT PRIMARY KEY",
-        ", FOREIGN KEY (a) REFERENCES t (a)",
-        1024,
-        ")",
-        "OK",
-    ),
-    (
-        "CREATE TABLE t (a INT PRIMARY KEY",
-        ", FOREIGN KEY (a) REFERENCES t (a)",
-        1025,
-        ")",
-        "9001 Limit of 1024 exceeded",
-    ),
-    (
-        "RENAME TABLE t TO u",
-        ", t TO u",
-        4095,
-        "",
-        "1146 Table 'd.t' doesn't exist",
-    ),
-    (
-        "RENAME TABLE t TO u",
-        ", t TO u",
-        4096,
-        "",
-        "9001 Limit of 4096 exceeded",
-    ),
-    (
         "DROP TABLE t",
         ", t",
         65_536,
@@ -593,7 +552,7 @@ pub const LONG: [(&str, &str, usize, &str, &str); 9] = [
 pub const ENDING: &str = "\n) ENGINE=InnoDB DEFAULT CHARSET=utf8mb4 COLLATE=utf8mb4_0900_ai_ci";
 
 /// Scripts, the name of a table, and the text of it that is shown, without its ending.
-pub const SHOWN: [(&str, &str, &str); 8] = [
+pub const SHOWN: [(&str, &str, &str); 6] = [
     (
         "CREATE TABLE t (id INT(11) PRIMARY KEY, n TINYINT(1), a VARCHAR(20) DEFAULT 'x')",
         "t",
@@ -603,11 +562,6 @@ pub const SHOWN: [(&str, &str, &str); 8] = [
         "CREATE TABLE `u` (\n  `id` int NOT NULL,\n  `n` tinyint(1) DEFAULT NULL,\n  `a` varchar(20) DEFAULT 'x',\n  PRIMARY KEY (`id`)\n) ENGINE=InnoDB DEFAULT CHARSET=utf8mb4 COLLATE=utf8mb4_0900_ai_ci",
         "u",
         "CREATE TABLE `u` (\n  `id` int NOT NULL,\n  `n` tinyint(1) DEFAULT NULL,\n  `a` varchar(20) DEFAULT 'x',\n  PRIMARY KEY (`id`)",
-    ),
-    (
-        "CREATE TABLE p (id INT PRIMARY KEY);CREATE TABLE a (i INT, FOREIGN KEY (i) REFERENCES p (id));CREATE TABLE b (j INT);RENAME TABLE a TO x, b TO a, x TO b",
-        "b",
-        "CREATE TABLE `b` (\n  `i` int DEFAULT NULL,\n  KEY `i` (`i`),\n  CONSTRAINT `b_ibfk_1` FOREIGN KEY (`i`) REFERENCES `p` (`id`)",
     ),
     (
         "CREATE TABLE customers (id INT UNSIGNED NOT NULL AUTO_INCREMENT, email VARCHAR(255) NOT NULL, name VARCHAR(100) DEFAULT NULL, PRIMARY KEY (id), UNIQUE KEY email (email))",
@@ -628,10 +582,5 @@ pub const SHOWN: [(&str, &str, &str); 8] = [
         "CREATE TABLE t (a INT DEFAULT '+007', b MEDIUMINT DEFAULT -0, c DATE, d DATETIME NOT NULL, f CHAR(9) DEFAULT 'it''s \\\\', KEY (a), UNIQUE (b), UNIQUE u (d), PRIMARY KEY (c))",
         "t",
         "CREATE TABLE `t` (\n  `a` int DEFAULT '7',\n  `b` mediumint DEFAULT '0',\n  `c` date NOT NULL,\n  `d` datetime NOT NULL,\n  `f` char(9) DEFAULT 'it''s \\\\',\n  PRIMARY KEY (`c`),\n  UNIQUE KEY `u` (`d`),\n  UNIQUE KEY `b` (`b`),\n  KEY `a` (`a`)",
-    ),
-    (
-        "CREATE TABLE s (id INT PRIMARY KEY, up INT, FOREIGN KEY (up) REFERENCES s (id));RENAME TABLE s TO t",
-        "t",
-        "CREATE TABLE `t` (\n  `id` int NOT NULL,\n  `up` int DEFAULT NULL,\n  PRIMARY KEY (`id`),\n  KEY `up` (`up`),\n  CONSTRAINT `t_ibfk_1` FOREIGN KEY (`up`) REFERENCES `t` (`id`)",
     ),
 ];

@@ -1,6 +1,7 @@
 ghost use Rattle.std.specs.Prelude.{◌≡◌};
-ghost use Rattle.std.specs.Option.{option_copied};
-ghost use Rattle.statements_decided.specs.Worlds.{is_key, object_at};
+ghost use Rattle.std.specs.List.{find};
+ghost use Rattle.std.specs.Option.{option_copied, option_map};
+ghost use Rattle.statements_decided.specs.Worlds.{is_key};
 
 use dd_catalog::{Known, Lookup, Object};
 use dd_definitions::ForeignKeyDef;
@@ -56,7 +57,7 @@ fn is_key(a: &ObjectKey, b: &ObjectKey) -> bool
 }
 
 fn object_at<'a>(entries: &'a [Standing], key: &ObjectKey) -> Option<&'a Object>
-    ensures { option_copied result ≡ object_at entries.now key.now }
+    ensures { option_copied result ≡ option_map (λ s. s.object) (find (λ s. is_key s.key key.now) entries.now) }
 {
     match entries.iter().find(|s| is_key(&s.key, key)) {
         Some(standing) => Some(&standing.object),
@@ -65,9 +66,11 @@ fn object_at<'a>(entries: &'a [Standing], key: &ObjectKey) -> Option<&'a Object>
 }
 
 impl Lookup for World {
-    ghost use Rattle.statements_decided.specs.Worlds.{object_at};
+    ghost use Rattle.std.specs.List.{find};
+    ghost use Rattle.std.specs.Option.{option_map};
+    ghost use Rattle.statements_decided.specs.Worlds.{is_key};
 
-    ghost known = { λ world key. object_at world.seen.items key };
+    ghost known = { λ world key. option_map (λ s. s.object) (find (λ s. is_key s.key key) world.seen.items) };
 
     fn look(&self, key: &ObjectKey) -> Known<'_> {
         match object_at(&self.seen, key) {
@@ -217,29 +220,34 @@ impl World {
         Err("more than 1,000 keys are needed".into())
     }
 
-    /// Answers a statement, and is what it leaves: `OK`, the lines of a listing with `|` between, or number and text of an error.
+    /// Answers a statement, and is what it leaves: `OK`, or `SAME` where nothing changes, the lines of a listing with `|`
+    /// between, or number and text of an error.
     pub fn answer(&mut self, text: &str) -> Result<String, Fail> {
         let statement = statement_of(self.alloc, text)?;
-        let mut out = String::new(self.alloc);
-        match self.decided(&statement)? {
+        let decided = self.decided(&statement)?;
+        Ok(self.done(decided)?)
+    }
+
+    fn done(&mut self, decided: Decided) -> Result<String, AllocError> {
+        match decided {
             Decided::Edits(edits) => {
                 self.apply(edits)?;
-                out.push_str("OK")?;
+                String::from_str(self.alloc, "OK")
             }
-            Decided::Same => out.push_str("SAME")?,
-            Decided::Rows(listing) => push_listing(&mut out, &listing)?,
-            Decided::Refused(error) => push_error(self.alloc, &mut out, &error)?,
-            Decided::Need(_) => out.push_str("NEED")?,
+            Decided::Same => String::from_str(self.alloc, "SAME"),
+            Decided::Rows(listing) => listing_text(self.alloc, &listing),
+            Decided::Refused(error) => error_text(self.alloc, &error),
+            Decided::Need(_key) => String::from_str(self.alloc, "NEED"),
         }
-        Ok(out)
     }
 
     /// The text of the table of that name, which is shown.
     pub fn shown(&self, name: &str) -> Result<Text, Fail> {
         for standing in &self.objects {
-            if let (ObjectKey::Object(object), Object::Table { def, .. }) =
-                (&standing.key, &standing.object)
-            {
+            if let (ObjectKey::Object(object), Object::Table { def, .. }) = (
+                &standing.key,
+                &standing.object,
+            ) {
                 if object.name.as_str() == name {
                     return Ok(show_table(self.alloc, def)?);
                 }
@@ -258,23 +266,29 @@ impl World {
     }
 }
 
-fn push_error(alloc: Global, out: &mut String, error: &SqlError) -> Result<(), AllocError> {
-    let number = error.number().to_string(alloc)?;
-    out.push_str(&number)?;
+fn error_text(alloc: Global, error: &SqlError) -> Result<String, AllocError> {
+    let mut out = error.number().to_string(alloc)?;
     out.push_str(" ")?;
-    out.push_str(error.text(alloc)?.as_str())
+    out.push_str(error.text(alloc)?.as_str())?;
+    Ok(out)
 }
 
-fn push_listing(out: &mut String, listing: &Listing) -> Result<(), AllocError> {
+fn listing_text(alloc: Global, listing: &Listing) -> Result<String, AllocError> {
+    let mut out = String::new(alloc);
     for title in listing.header.as_slice() {
         out.push_str(title.as_str())?;
     }
     for row in listing.rows.as_slice() {
-        for cell in row.as_slice() {
-            out.push_str("|")?;
-            if let Cell::Value(text) = cell {
-                out.push_str(text.as_str())?;
-            }
+        push_row(&mut out, row.as_slice())?;
+    }
+    Ok(out)
+}
+
+fn push_row(out: &mut String, cells: &[Cell]) -> Result<(), AllocError> {
+    for cell in cells {
+        out.push_str("|")?;
+        if let Cell::Value(text) = cell {
+            out.push_str(text.as_str())?;
         }
     }
     Ok(())
