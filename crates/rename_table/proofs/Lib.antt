@@ -5,6 +5,9 @@ pub mod Names
 pub mod ChildrenAmong
 pub mod OwnersAmong
 pub mod Keys
+pub mod Edits
 pub mod Free
 pub mod Steps
 pub mod Sighted
+pub mod Pair
+pub mod Whole

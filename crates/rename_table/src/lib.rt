@@ -1,12 +1,18 @@
-//! RENAME TABLE: what stands behind the pairs so far, and the foreign keys of renamed tables.
+//! RENAME TABLE: what it changes, or is refused for.
 #![tactic(auto)]
 
+mod all_pairs;
 mod children;
 mod constraints;
 mod foreign_keys;
 mod objects;
+mod one_object;
 mod ordered;
 mod overlay;
 mod owners;
+mod pairs;
 mod put;
 mod refusals;
+mod statement;
+
+pub use statement::rename;

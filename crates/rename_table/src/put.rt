@@ -1,4 +1,4 @@
-ghost use Rattle.std.specs.Prelude.{◌≡◌};
+ghost use Rattle.std.specs.Prelude.{◌≡◌, IfOk};
 ghost use Rattle.dd_catalog.specs.declared.object.Object.TheVariants as objects;
 ghost use Rattle.dd_catalog.specs.Sights.{sight};
 ghost use Rattle.rules_rename.specs.Overlays.{after_seen};
@@ -6,7 +6,8 @@ ghost use Rattle.rename_table.specs.Left.{after_left};
 
 use dd_catalog::Object;
 use dd_definitions::{TableDef, ViewDef};
-use dd_names::ObjName;
+use dd_names::{ObjName, TryCopy};
+use std::alloc::AllocError;
 use std::marker::Model;
 
 /// What is left at the name of an object: a table, a view, or nothing. Contracts see it as an object.
@@ -79,4 +80,17 @@ pub(crate) struct Put {
     /// What stood there before the statement.
     pub(crate) before: Object,
     pub(crate) after: Left,
+}
+
+impl Put {
+    /// The change at the name where one object stands and the other is left.
+    pub(crate) fn at(name: &ObjName, before: &Object, after: Left) -> Result<Put, AllocError>
+        ensures { IfOk result (λ put. put ≡ record { name = name.now; before = before.now; after = after }) }
+    {
+        Ok(Put {
+            name: name.copy()?,
+            before: before.copy()?,
+            after,
+        })
+    }
 }

@@ -1,5 +1,5 @@
 -- What each statement on schemas and tables comes to.
-use Rattle.std.specs.Prelude.{Bool, Option, Some, None, is_some}
+use Rattle.std.specs.Prelude.{Option, Some, None}
 use Rattle.dd_errors.specs.Errors.{ErrorValue}
 use Rattle.ddl_words.specs.declared.session.SessionState.{SessionState}
 use Rattle.ddl_words.specs.declared.statement.Statement.{Statement}
@@ -26,8 +26,3 @@ table_outcome session (is.ShowTables schema) = Some (show_tables session schema)
 table_outcome session (is.SetTries value) = Some (set_tries session value)
 table_outcome session (is.Bad error) = Some (refuse error)
 table_outcome session statement = None
-
--- the same, where it is decided in code; RENAME TABLE isn't so far
-abbrev pub where_decided : {A : Type 0} → Statement → Option A → Option A
-where_decided (is.Rename pairs) found = None
-where_decided statement found = found
