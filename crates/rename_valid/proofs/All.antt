@@ -14,12 +14,12 @@ use Rattle.ddl_decided.specs.Choices.{Choice, Changes, applied, catalog_behind}
 use Rattle.rules_named.specs.Named.{is_nothing, schema_there, own_schema_there}
 use Rattle.rules_named.specs.Refusals.{unknown_schema, beyond_limit}
 use Rattle.rules_create.proofs.Names.{not_refused}
-use Rattle.rules_rename.specs.Overlays.{Overlay, behind_changes, changes_in}
+use Rattle.rules_rename.specs.Overlays.{Overlay, behind_changes, with_changes, changes_in}
 use Rattle.rules_rename.specs.Renames.{renamed_object, Renaming, one_pair, named_pair, schemas_there, rename}
 use Rattle.rules_rename.specs.Behind.{run_behind}
 use Rattle.rename_valid.proofs.Places.{placed_over}
 use Rattle.rename_valid.proofs.Behind.{KeepsSpaces, none_keeps, more_keep, all_schemas, catalog_places}
-use Rattle.rename_valid.proofs.Sound.{IsSound, schemas_of, from_valid, alike_sound, to_valid}
+use Rattle.rename_valid.proofs.Sound.{IsSound, KeepSpaces, keep_all, keep_both, keep_alike, schemas_of, from_valid, alike_sound, to_valid}
 use Rattle.rename_valid.proofs.Pair.{now_of, look_of, KeepsValid, pair_keeps}
 
 -- ## Schemas
@@ -49,6 +49,7 @@ all_known cat (pair ∷ pairs) x is =
 record IsKeptValid (cat : Catalog) (renaming : Renaming) : Type 0 where
   sound : IsSound (schemas_of cat) (now_of cat renaming.overlay)
   keeping : KeepsSpaces renaming.overlay
+  spaces : KeepSpaces (finite_map.get cat.objects) (now_of cat renaming.overlay)
 
 one_keeps : (cat : Catalog) → IsValid cat → (before : Renaming) (pair : ObjName × ObjName) (next : Renaming) → schemas_of cat pair.1.schema ≡ true → IsKeptValid cat before → run (all_of cat) (one_pair before pair) ≡ fine next → IsKeptValid cat next
 unfolding one_pair
@@ -56,7 +57,11 @@ one_keeps cat valid before pair next schema kept is =
     let (renamed, made, last) = bind_fine (all_of cat) (behind_changes before.overlay (renamed_object pair.0 pair.1)) _ next is in
     let behind : run (look_of cat before.overlay) (renamed_object pair.0 pair.1) ≡ fine renamed = sym (run_behind before.overlay (all_of cat) (renamed_object pair.0 pair.1)) ∙ made in
     let after : KeepsValid cat before.overlay renamed = pair_keeps cat before.overlay pair.0 pair.1 renamed (record { before = from_valid cat valid; sound = kept.sound }) schema behind in
-    subst (IsKeptValid cat) (fine_is last) (record { sound = after.sound; keeping = more_keep before.overlay renamed.changes kept.keeping after.keeping })
+    subst (IsKeptValid cat) (fine_is last) (record {
+      sound = after.sound;
+      keeping = more_keep before.overlay renamed.changes kept.keeping after.keeping;
+      spaces = keep_both (finite_map.get cat.objects) (now_of cat before.overlay) (now_of cat (with_changes before.overlay renamed.changes)) kept.spaces after.spaces;
+    })
 
 all_keep : (cat : Catalog) → IsValid cat → (before : Renaming) (pairs : List (ObjName × ObjName)) (end : Renaming) → AllByRecursion (λ (pair : ObjName × ObjName). schemas_of cat pair.1.schema ≡ true) pairs → IsKeptValid cat before
     → run (all_of cat) (over one_pair before pairs) ≡ fine end → IsKeptValid cat end
@@ -69,10 +74,13 @@ abbrev no_changes : Overlay
 no_changes = finite_map.empty
 
 at_first : (cat : Catalog) → IsValid cat → IsKeptValid cat (record { overlay = finite_map.empty; children = [] })
-at_first cat valid = record {
-  sound = alike_sound (schemas_of cat) (finite_map.get cat.objects) (now_of cat no_changes) (λ name. ap (λ known. placed_over known (finite_map.get cat.objects name)) (sym (finite_map.get-empty object_cmp name))) (from_valid cat valid);
-  keeping = none_keeps;
-}
+at_first cat valid =
+    let alike = λ (name : ObjName). ap (λ known. placed_over known (finite_map.get cat.objects name)) (sym (finite_map.get-empty object_cmp name)) in
+    record {
+      sound = alike_sound (schemas_of cat) (finite_map.get cat.objects) (now_of cat no_changes) alike (from_valid cat valid);
+      keeping = none_keeps;
+      spaces = keep_alike (finite_map.get cat.objects) (finite_map.get cat.objects) (now_of cat no_changes) alike (keep_all (finite_map.get cat.objects));
+    }
 
 -- the catalog that the changes make is valid
 catalog_valid : (cat : Catalog) (space : ℕ) (overlay : Overlay) → IsValid cat → IsSound (schemas_of cat) (now_of cat overlay) → KeepsSpaces overlay → IsValid (applied space (changes_in (finite_map.entries overlay)) cat)
@@ -81,13 +89,35 @@ catalog_valid cat space overlay valid sound keeping = to_valid (applied space (c
     (subst (λ (schemas : NameSet). IsSound (λ name. finite_map.contains_key schemas name) (finite_map.get (applied space (changes_in (finite_map.entries overlay)) cat).objects)) (sym (all_schemas space (finite_map.entries overlay) cat))
     (alike_sound (schemas_of cat) (now_of cat overlay) (finite_map.get (applied space (changes_in (finite_map.entries overlay)) cat).objects) (λ name. sym (catalog_places space overlay cat name keeping)) sound))
 
-pub rename_keeps : (cat : Catalog) (space : ℕ) (session : SessionState) (pairs : List RenamePair) (choice : Choice) → IsValid cat → run (all_of cat) (rename session pairs) ≡ fine choice → IsValid (catalog_behind space choice cat)
+-- what all pairs change, over a valid catalog
+record IsRenaming (cat : Catalog) (session : SessionState) (choice : Choice) : Type 0 where
+  renaming : Renaming
+  kept : IsKeptValid cat renaming
+  is : Changes (changes_in (finite_map.entries renaming.overlay)) session ≡ choice
+
+renaming_of : (cat : Catalog) (session : SessionState) (pairs : List RenamePair) (choice : Choice) → IsValid cat → run (all_of cat) (rename session pairs) ≡ fine choice → IsRenaming cat session choice
 unfolding rename
-rename_keeps cat space session pairs choice valid is =
+renaming_of cat session pairs choice valid is =
     let (named, _, after_names) = bind_fine (all_of cat) (each (named_pair session.current) pairs) _ choice is in
     let (x, schemas, after_schemas) = bind_fine (all_of cat) (every schemas_there named) _ choice after_names in
     let (_, _, after_pairs) = bind_fine (all_of cat) (refuse_if (nat_lt 4096 (length named)) (beyond_limit "4096")) _ choice after_schemas in
     let (renaming, made, after_all) = bind_fine (all_of cat) (over one_pair (record { overlay = finite_map.empty; children = [] }) named) _ choice after_pairs in
     let (_, _, last) = bind_fine (all_of cat) (refuse_if (nat_lt 4096 (length renaming.children)) (beyond_limit "4096")) _ choice after_all in
-    let kept : IsKeptValid cat renaming = all_keep cat valid (record { overlay = finite_map.empty; children = [] }) named renaming (all_known cat named x schemas) (at_first cat valid) made in
-    subst (λ (c : Choice). IsValid (catalog_behind space c cat)) {x = Changes (changes_in (finite_map.entries renaming.overlay)) session} (fine_is last) (catalog_valid cat space renaming.overlay valid kept.sound kept.keeping)
+    record {
+      renaming = renaming;
+      kept = all_keep cat valid (record { overlay = finite_map.empty; children = [] }) named renaming (all_known cat named x schemas) (at_first cat valid) made;
+      is = fine_is last;
+    }
+
+pub rename_keeps : (cat : Catalog) (space : ℕ) (session : SessionState) (pairs : List RenamePair) (choice : Choice) → IsValid cat → run (all_of cat) (rename session pairs) ≡ fine choice → IsValid (catalog_behind space choice cat)
+rename_keeps cat space session pairs choice valid is =
+    let made : IsRenaming cat session choice = renaming_of cat session pairs choice valid is in
+    subst (λ (c : Choice). IsValid (catalog_behind space c cat)) made.is (catalog_valid cat space made.renaming.overlay valid made.kept.sound made.kept.keeping)
+
+-- each table behind it has the space of a table that was there
+pub rename_keeps_spaces : (cat : Catalog) (space : ℕ) (session : SessionState) (pairs : List RenamePair) (choice : Choice) → IsValid cat → run (all_of cat) (rename session pairs) ≡ fine choice
+    → KeepSpaces (finite_map.get cat.objects) (finite_map.get (catalog_behind space choice cat).objects)
+rename_keeps_spaces cat space session pairs choice valid is =
+    let made : IsRenaming cat session choice = renaming_of cat session pairs choice valid is in
+    subst (λ (c : Choice). KeepSpaces (finite_map.get cat.objects) (finite_map.get (catalog_behind space c cat).objects)) made.is
+    (keep_alike (finite_map.get cat.objects) (now_of cat made.renaming.overlay) (finite_map.get (applied space (changes_in (finite_map.entries made.renaming.overlay)) cat).objects) (λ name. sym (catalog_places space made.renaming.overlay cat name made.kept.keeping)) made.kept.spaces)

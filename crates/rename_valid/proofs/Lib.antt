@@ -2,7 +2,7 @@ mod Lists
 mod Names
 mod Places
 mod Behind
-mod Sound
+pub mod Sound
 mod Moved
 mod Renamed
 mod Seen

@@ -35,9 +35,9 @@ use Rattle.rename_valid.proofs.Lists.{IsIn}
 use Rattle.rename_valid.proofs.Names.{same_or_not}
 use Rattle.rename_valid.proofs.Places.{Places, placed_after, places_behind}
 use Rattle.rename_valid.proofs.Behind.{names_of, behind_all, IsKeeping}
-use Rattle.rename_valid.proofs.Sound.{IsSound, have_parents, schemas_of}
+use Rattle.rename_valid.proofs.Sound.{IsSound, KeepSpaces, have_parents, schemas_of}
 use Rattle.rename_valid.proofs.Moved.{moved, moved_stays, no_view_is_parent}
-use Rattle.rename_valid.proofs.Renamed.{Renames, MayStand, HasParents, key_fits, renames_sound}
+use Rattle.rename_valid.proofs.Renamed.{Renames, MayStand, HasParents, key_fits, renames_keep_spaces, renames_sound}
 use Rattle.rename_valid.proofs.Seen.{object_is_seen, IsOwner, owner_is_seen, IsChild, seen_children, seen_are_children, children_are_seen}
 
 -- what stands behind the changes to a catalog
@@ -205,6 +205,7 @@ all_children cat overlay from to (child ∷ children) changes is =
 pub record KeepsValid (cat : Catalog) (overlay : Overlay) (renamed : Renamed) : Type 0 where
   pub sound : IsSound (schemas_of cat) (now_of cat (with_changes overlay renamed.changes))
   pub keeping : AllByRecursion (λ (c : ObjName × After). IsKeeping c.1) renamed.changes
+  pub spaces : KeepSpaces (now_of cat overlay) (now_of cat (with_changes overlay renamed.changes))
 
 -- what a pair begins with
 pub record Begins (cat : Catalog) (overlay : Overlay) : Type 0 where
@@ -284,6 +285,9 @@ table_all cat overlay from to space parts made changes begins schema was free ke
           (now_of cat (with_changes overlay (table_changes from to space parts made changes))) begins.sound stand (new_parents cat overlay from to space parts made begins are stand)
           (renames_of from to (table_at to space parts made) (now_of cat overlay) (now_of cat (with_changes overlay (table_changes from to space parts made changes))) stands);
       keeping = (tt, (tt, children_hold (λ _ change. IsKeeping change) cat overlay from to changes (λ child _. child_keeps from to (now_of cat overlay child)) children.all));
+      spaces = renames_keep_spaces (schemas_of cat) from to (Table space parts) (table_at to space parts made) (now_of cat overlay)
+          (now_of cat (with_changes overlay (table_changes from to space parts made changes))) stand
+          (renames_of from to (table_at to space parts made) (now_of cat overlay) (now_of cat (with_changes overlay (table_changes from to space parts made changes))) stands);
     }
 
 table_keeps : (cat : Catalog) (overlay : Overlay) (from to : ObjName) (space : ℕ) (parts : TableParts) (renamed : Renamed) → Begins cat overlay → schemas_of cat to.schema ≡ true → now_of cat overlay from ≡ Some (Table space parts)
@@ -339,6 +343,8 @@ view_all cat overlay from to parts begins schema was free =
       sound = renames_sound (schemas_of cat) from to (View parts) (view_at to parts) (now_of cat overlay) (now_of cat (with_changes overlay (view_changes from to parts))) begins.sound stand parents
           (renames_of from to (view_at to parts) (now_of cat overlay) (now_of cat (with_changes overlay (view_changes from to parts))) stands);
       keeping = (tt, (tt, tt));
+      spaces = renames_keep_spaces (schemas_of cat) from to (View parts) (view_at to parts) (now_of cat overlay) (now_of cat (with_changes overlay (view_changes from to parts))) stand
+          (renames_of from to (view_at to parts) (now_of cat overlay) (now_of cat (with_changes overlay (view_changes from to parts))) stands);
     }
 
 one_view_keeps : (cat : Catalog) (overlay : Overlay) (from to : ObjName) (parts : ViewParts) (renamed : Renamed) → Begins cat overlay → schemas_of cat to.schema ≡ true → now_of cat overlay from ≡ Some (View parts)

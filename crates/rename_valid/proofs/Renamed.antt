@@ -14,7 +14,7 @@ use Rattle.rules_create.proofs.Lists.{all_map, all_weaker}
 use Rattle.rules_rename.specs.Renames.{with_parent, with_parents}
 use Rattle.rename_valid.proofs.Names.{same_is, is_same, same_or_not}
 use Rattle.rename_valid.proofs.Places.{Places}
-use Rattle.rename_valid.proofs.Sound.{IsSound, have_parents}
+use Rattle.rename_valid.proofs.Sound.{IsSound, KeepSpaces, have_parents}
 use Rattle.rename_valid.proofs.Moved.{moved, moved_name, moved_formed, moved_constraints, moved_fit}
 
 -- ## What a renaming makes
@@ -106,6 +106,13 @@ had_space schemas from to old new now next stand renames o space parts is = elim
       let (p, before_is, _) = table_before from to other.before space parts other.is in
       record { was = o; parts = p; there = other.there ∙ ap (λ x. Some x) before_is; whose = inr (refl, other.apart) }
 ]
+
+pub renames_keep_spaces : (schemas : List ℕ → Bool) (from to : ObjName) (old new : Placed) (now next : Places) → MayStand schemas from to old new now → Renames from to new now next → KeepSpaces now next
+renames_keep_spaces schemas from to old new now next stand renames = record {
+  held = λ o space parts is.
+      let had : HadSpace from to now o space = had_space schemas from to old new now next stand renames o space parts is in
+      record { name = had.was; parts = had.parts; there = had.there };
+}
 
 same_owner : (from to a b wa wb : ObjName) → wa ≡ wb → ((a ≡ to) × (wa ≡ from)) ⊎ ((a ≡ wa) × (a ≡ from → ⊥)) → ((b ≡ to) × (wb ≡ from)) ⊎ ((b ≡ wb) × (b ≡ from → ⊥)) → a ≡ b
 same_owner from to a b wa wb same (inl one) (inl two) = one.0 ∙ sym two.0

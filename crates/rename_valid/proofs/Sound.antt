@@ -27,6 +27,27 @@ pub record IsSound (schemas : List ℕ → Bool) (at : Places) : Type 0 where
       → has_constraint folded placed ≡ true → has_constraint folded other ≡ true → a ≡ b
   pub parents_fit : (name : ObjName) (space : ℕ) (parts : TableParts) → at name ≡ Some (Table space parts) → have_parents at parts parts.foreign_keys ≡ true
 
+-- a table has the space
+pub record HoldsSpace (at : Places) (space : ℕ) : Type 0 where
+  pub name : ObjName
+  pub parts : TableParts
+  pub there : at name ≡ Some (Table space parts)
+
+-- each table has the space of one that stood there before
+pub record KeepSpaces (before at : Places) : Type 0 where
+  pub held : (name : ObjName) (space : ℕ) (parts : TableParts) → at name ≡ Some (Table space parts) → HoldsSpace before space
+
+pub keep_all : (at : Places) → KeepSpaces at at
+keep_all at = record { held = λ name space parts is. record { name = name; parts = parts; there = is } }
+
+pub keep_both : (first second third : Places) → KeepSpaces first second → KeepSpaces second third → KeepSpaces first third
+keep_both first second third one two = record {
+  held = λ name space parts is. let before : HoldsSpace second space = two.held name space parts is in one.held before.name space before.parts before.there;
+}
+
+pub keep_alike : (before at other : Places) → ((name : ObjName) → at name ≡ other name) → KeepSpaces before at → KeepSpaces before other
+keep_alike before at other alike kept = record { held = λ name space parts is. kept.held name space parts (alike name ∙ is) }
+
 abbrev pub schemas_of : Catalog → List ℕ → Bool
 schemas_of cat name = finite_map.contains_key cat.schemas name
 

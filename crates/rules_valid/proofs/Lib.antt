@@ -7,3 +7,4 @@ pub mod Created
 pub mod ByClass
 pub mod Fits
 pub mod Tables
+pub mod Spaces
