@@ -1,0 +1,4 @@
+pub mod Listings
+pub mod Refusals
+pub mod Shows
+pub mod Outcome
