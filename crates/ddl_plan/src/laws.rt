@@ -8,7 +8,7 @@ ghost use Rattle.dd_catalog.specs.Catalog.{Catalog, sight_of, all_of};
 ghost use Rattle.dd_catalog.specs.Walks.{Walk, run, asked};
 ghost use Rattle.dd_catalog.specs.WalkLaws.{Look, IsOf, IsSettled};
 ghost use Rattle.ddl_decided.specs.Choices.{Choice};
-ghost use Rattle.rules_valid.specs.Keeps.{KeepsValid};
+ghost use Rattle.rules_valid.specs.Keeps.{KeepsValid, MakesOneSpace};
 ghost use Rattle.ddl_plan.specs.Outcome.{outcome, is_decided};
 
 /// What holds of the check of each statement. A kind that is decided has one; over a whole catalog no key is needed; over two
@@ -21,7 +21,9 @@ pub fn outcome_laws()
     ensures known { (cat : Catalog) (look : Look) (check : Walk ErrorValue Choice) → IsOf (sight_of cat) look → IsSettled (run look check) → run (all_of cat) check ≡ run look check }
 {}
 
-/// What any statement changes keeps a valid catalog valid. It does nothing when it runs.
+/// What any statement changes keeps a valid catalog valid, and each table behind it has the space that a table had, or the
+/// number that the statement takes. It does nothing when it runs.
 pub fn outcomes_keep_validity()
     ensures kept { (session : SessionState) (statement : Statement) (check : Walk ErrorValue Choice) → outcome session statement ≡ Some check → KeepsValid check }
+    ensures one_space { (session : SessionState) (statement : Statement) (check : Walk ErrorValue Choice) → outcome session statement ≡ Some check → MakesOneSpace check }
 {}
