@@ -8,8 +8,6 @@ mod others;
 mod shows;
 mod statement;
 mod tables;
-#[cfg(test)]
-mod tests;
 mod texts;
 
 pub use texts::{parse, statement_of};

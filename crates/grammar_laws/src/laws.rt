@@ -3,7 +3,7 @@ ghost use Rattle.grammar_data.specs.Checks.{one_token_decides, has_examples};
 ghost use Rattle.ddl_words.specs.Grammar.{statement};
 ghost use Rattle.ddl_words.specs.Reads.{EachReads, EachReadsOnce};
 
-use crate::Statement;
+use ddl_words::Statement;
 use grammar_data::Language;
 use sql_lex::reading_laws;
 

@@ -1,7 +1,7 @@
 use Rattle.std.proofs.Common.{◌∙◌, ap, sym}
 use Rattle.ddl_words.specs.Reads.{statement_read}
-use Rattle.ddl_words.proofs.Checks.{decided, shown}
-use Rattle.ddl_words.proofs.laws.statement_laws.Goals as goal
+use Rattle.grammar_laws.proofs.Checks.{decided, shown}
+use Rattle.grammar_laws.proofs.laws.statement_laws.Goals as goal
 
 pub reading_laws-requires-clause-decided : goal.reading_laws-requires-clause-decided
 reading_laws-requires-clause-decided c = decided
