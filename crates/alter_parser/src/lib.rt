@@ -6,8 +6,6 @@ mod added;
 mod changed;
 mod dropped;
 mod front;
-#[cfg(test)]
-mod tests;
 
 pub use action::{ActionItem, action_words};
 pub use front::actions;

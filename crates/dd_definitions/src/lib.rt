@@ -8,8 +8,6 @@ mod foreign_keys;
 mod indexes;
 mod parts;
 mod table;
-#[cfg(test)]
-mod tests;
 mod view;
 mod view_parts;
 

@@ -12,8 +12,6 @@ mod record;
 mod replay;
 mod steps;
 mod stop;
-#[cfg(test)]
-mod tests;
 
 pub use disk::MemoryDisk;
 pub use fail::{Call, FailAt};

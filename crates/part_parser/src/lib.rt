@@ -6,8 +6,6 @@ mod options;
 mod parse_fault;
 mod places;
 mod small_words;
-#[cfg(test)]
-mod tests;
 
 pub use named::{columns, names, number, object, optional_name};
 pub use options::{charset, charset_option, db_options, engine_option, equals, table_options};

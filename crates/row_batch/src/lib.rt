@@ -7,8 +7,6 @@ mod fault;
 mod operation;
 mod placing;
 mod reading;
-#[cfg(test)]
-mod tests;
 mod writing;
 
 pub use batch::Batch;

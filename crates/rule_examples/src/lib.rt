@@ -2,7 +2,5 @@
 #![tactic(auto)]
 
 mod computed;
-#[cfg(test)]
-mod tests;
 
 pub use computed::examples;

@@ -8,8 +8,6 @@ mod next;
 mod number;
 mod reading;
 mod rule;
-#[cfg(test)]
-mod tests;
 
 pub use fault::ReadFault;
 pub use input::Input;

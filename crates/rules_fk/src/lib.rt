@@ -10,8 +10,6 @@ mod keys;
 mod kinds;
 mod parents;
 pub mod refusals;
-#[cfg(test)]
-mod tests;
 
 pub use checked::Checked;
 pub use columns::check_column;

@@ -4,8 +4,6 @@
 mod columns;
 mod keys;
 mod tables;
-#[cfg(test)]
-mod tests;
 mod views;
 
 pub use tables::{show_schema, show_table};

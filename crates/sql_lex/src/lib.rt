@@ -5,8 +5,6 @@ mod lex;
 mod piece;
 mod reach;
 mod string_part;
-#[cfg(test)]
-mod tests;
 mod text_laws;
 mod token;
 

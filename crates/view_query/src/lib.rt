@@ -4,8 +4,6 @@
 mod items;
 mod query;
 mod sources;
-#[cfg(test)]
-mod tests;
 mod words;
 
 pub use query::{select, select_words};

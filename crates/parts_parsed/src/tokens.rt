@@ -3,8 +3,8 @@ ghost use Rattle.grammar_data.specs.Lexemes.{name};
 ghost use Rattle.grammar_data.specs.Grammar.{one};
 ghost use Rattle.grammar_data.specs.Rules.{word_of, listed, ◌⊳◌};
 
-use crate::{LexFault, Token, TokenKind, meaning, means, reading_laws, tokens, tokens_before};
 use grammar_data::Language;
+use sql_lex::{LexFault, Token, TokenKind, meaning, means, reading_laws, tokens, tokens_before};
 use std::alloc::{AllocError, Global};
 use std::test::Fail;
 

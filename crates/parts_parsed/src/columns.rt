@@ -1,4 +1,4 @@
-use crate::{ColumnItem, ElementItem, element, named_column};
+use column_parser::{ColumnItem, ElementItem, element, named_column};
 use dd_objects::{ColumnWords, FkRule, IndexClass, IntSize, Literal, TypeWords};
 use ddl_words::Element;
 use part_parser::ParseFault;

@@ -2,11 +2,11 @@ ghost use Rattle.std.specs.Prelude.{refl};
 ghost use Rattle.grammar_data.specs.Lexemes.{name};
 ghost use Rattle.grammar_data.specs.Grammar.{one};
 
-use crate::{
+use dd_names::Name;
+use rule_read::{
     Input, Item, ReadFault, Rule, at_name, digits, exactly, listed, many, name, number_of, sign,
     skip_word, string, width, word,
 };
-use dd_names::Name;
 use sql_lex::tokens_before;
 use std::alloc::Global;
 use std::test::Fail;

@@ -1,4 +1,4 @@
-use crate::{
+use part_parser::{
     columns, db, db_options, from_or_in, if_exists, if_not_exists, index_or_key, names, number,
     object, optional_name, schema_in, table_options,
 };

@@ -1,4 +1,4 @@
-use crate::{Batch, BatchFault, Operation};
+use row_batch::{Batch, BatchFault, Operation};
 use std::test::Fail;
 
 /// Two puts.

@@ -1,4 +1,4 @@
-use crate::{action_words, actions};
+use alter_parser::{action_words, actions};
 use ddl_words::{AlterAction, Place};
 use part_parser::ParseFault;
 use rule_read::Input;

@@ -1,4 +1,4 @@
-use crate::{Call, FailAt, MemoryDisk};
+use disk_memory::{Call, FailAt, MemoryDisk};
 use disk_trait::{Disk, Failed, PathText};
 use std::alloc::Global;
 use std::test::Fail;

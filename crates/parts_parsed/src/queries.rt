@@ -1,9 +1,9 @@
-use crate::{select, view_words};
 use part_parser::ParseFault;
 use rule_read::Input;
 use sql_lex::tokens_before;
 use std::alloc::{AllocError, Global};
 use std::test::Fail;
+use view_query::{select, view_words};
 
 /// Texts, the token at which reading begins, and how many items and sources there are, or the byte of the first fault.
 const QUERIES: [(&str, usize, Result<(usize, usize), usize>); 11] = [
