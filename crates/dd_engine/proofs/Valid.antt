@@ -12,7 +12,7 @@ use Rattle.rules_valid.specs.Keeps.{KeepsValid}
 use Rattle.ddl_plan.specs.Outcome.{outcome}
 use Rattle.ddl_plan.proofs.Kept.{outcome_kept}
 use Rattle.dd_engine.specs.declared.history.Answer.{Answer}
-use Rattle.dd_engine.specs.declared.history.Answer.TheVariants.{Done, Rows, Error, Memory}
+use Rattle.dd_engine.specs.declared.history.Answer.TheVariants.{Done, Rows, Error, Memory, NoSpaceId}
 use Rattle.dd_engine.specs.declared.history.Entry.{Entry}
 use Rattle.dd_engine.specs.History.{choice_found, choice_in, done_of, TakesSpaces, space_in, Step, StepByStep, catalog_after, sessions_after, catalog_left}
 
@@ -27,6 +27,7 @@ same_stays cat space Done valid = valid
 same_stays cat space (Rows listing) valid = valid
 same_stays cat space (Error error) valid = valid
 same_stays cat space Memory valid = valid
+same_stays cat space (NoSpaceId next) valid = valid
 
 choice_keeps : (cat : Catalog) (spaces : List ℕ) (check : Walk ErrorValue Choice) (choice : Choice) (answer : Answer) → KeepsValid check → IsValid cat → run (all_of cat) check ≡ fine choice
     → TakesSpaces cat (takes_space (done_of choice answer)) spaces → IsValid (catalog_behind (space_in spaces) (done_of choice answer) cat)
@@ -34,6 +35,7 @@ choice_keeps cat spaces check choice Done kept valid is taken = kept.keeps cat (
 choice_keeps cat spaces check choice (Rows listing) kept valid is taken = valid
 choice_keeps cat spaces check choice (Error error) kept valid is taken = valid
 choice_keeps cat spaces check choice Memory kept valid is taken = valid
+choice_keeps cat spaces check choice (NoSpaceId next) kept valid is taken = valid
 
 check_keeps : (cat : Catalog) (spaces : List ℕ) (check : Walk ErrorValue Choice) (answer : Answer) → KeepsValid check → IsValid cat
     → TakesSpaces cat (takes_space (done_of (choice_found (run (all_of cat) check)) answer)) spaces → IsValid (catalog_behind (space_in spaces) (done_of (choice_found (run (all_of cat) check)) answer) cat)

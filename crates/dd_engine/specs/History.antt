@@ -1,32 +1,56 @@
 -- The histories that a dictionary of one thread may make.
 use Rattle.std.specs.Prelude.{ℕ, ◌≡◌, ◌+◌, ◌==◌, Bool, true, false, List, [], ◌∷◌, filter, take, Option, Some, None, if◌then◌else◌, ⊤}
+use Rattle.std.specs.List.{list_any}
 use Rattle.dd_errors.specs.Errors.{ErrorValue}
 use Rattle.ddl_words.specs.declared.session.SessionState.{SessionState}
 use Rattle.dd_catalog.specs.Catalog.{Catalog}
 use Rattle.dd_catalog.specs.Walks.{Found, fine, refused, needs}
-use Rattle.ddl_decided.specs.Choices.{Choice, Same, Changes, Lists, catalog_behind, session_behind, takes_space, IsNewSpace}
+use Rattle.ddl_decided.specs.Choices.{After, Gone, Schema, FreshTable, KeptTable, View, Change, Choice, Same, Changes, Lists, catalog_behind, session_behind, takes_space, IsNewSpace}
 use Rattle.ddl_plan.specs.Outcome.{outcome_over}
 use Rattle.dd_engine.specs.declared.history.Answer.{Answer}
-use Rattle.dd_engine.specs.declared.history.Answer.TheVariants.{Done, Rows, Error, Memory}
+use Rattle.dd_engine.specs.declared.history.Answer.TheVariants.{Done, Rows, Error, Memory, NoSpaceId}
 use Rattle.dd_engine.specs.declared.history.Entry.{Entry}
 use Rattle.dd_engine.specs.Catalog.{new_session}
 
+-- ## Numbers
+
+-- a schema, or a table with a new tablespace, is made
+abbrev pub takes_number : After → Bool
+takes_number Gone = false
+takes_number Schema = true
+takes_number (FreshTable parts) = true
+takes_number (KeptTable space parts) = false
+takes_number (View parts) = false
+
+-- what is chosen draws a number
+abbrev pub draws : Choice → Bool
+draws Same = false
+draws (Changes changes session) = list_any (λ (c : Change). takes_number c.after) changes
+draws (Lists listing) = false
+
+-- it draws a number, and this is the one behind the last
+abbrev pub IsOut : Choice → ℕ → Type 0
+IsOut choice next = (draws choice ≡ true) × (next ≡ 4294967295)
+
 -- ## The answer
 
--- what changes something, or nothing, is done; what lists is answered by its rows; or there was no memory
+-- what changes something, or nothing, is done; what lists is answered by its rows; or there was no memory, or no number
 abbrev pub AnswersChoice : Choice → Answer → Type 0
 AnswersChoice Same Done = ⊤
 AnswersChoice Same Memory = ⊤
 AnswersChoice Same (Rows listing) = ⊥
 AnswersChoice Same (Error error) = ⊥
+AnswersChoice Same (NoSpaceId next) = ⊥
 AnswersChoice (Changes changes session) Done = ⊤
 AnswersChoice (Changes changes session) Memory = ⊤
 AnswersChoice (Changes changes session) (Rows listing) = ⊥
 AnswersChoice (Changes changes session) (Error error) = ⊥
+AnswersChoice (Changes changes session) (NoSpaceId next) = IsOut (Changes changes session) next
 AnswersChoice (Lists l) (Rows listing) = listing ≡ l
 AnswersChoice (Lists l) Memory = ⊤
 AnswersChoice (Lists l) Done = ⊥
 AnswersChoice (Lists l) (Error error) = ⊥
+AnswersChoice (Lists l) (NoSpaceId next) = ⊥
 
 -- what is refused is answered by its error
 abbrev pub AnswersError : ErrorValue → Answer → Type 0
@@ -34,6 +58,7 @@ AnswersError r (Error error) = error ≡ r
 AnswersError r Memory = ⊤
 AnswersError r Done = ⊥
 AnswersError r (Rows listing) = ⊥
+AnswersError r (NoSpaceId next) = ⊥
 
 abbrev pub AnswersFound : Found ErrorValue Choice → Answer → Type 0
 AnswersFound (fine choice) answer = AnswersChoice choice answer
@@ -62,6 +87,7 @@ done_of choice Done = choice
 done_of choice (Rows listing) = Same
 done_of choice (Error error) = Same
 done_of choice Memory = Same
+done_of choice (NoSpaceId next) = Same
 
 -- what an entry does
 abbrev pub effect : Catalog → (ℕ → SessionState) → Entry → Choice

@@ -14,6 +14,11 @@ pub enum Answer {
     Error(SqlError),
     /// There was no memory for it, and it changes nothing.
     Memory,
+    /// It makes a schema or a table, for which no number is left, and it changes nothing.
+    NoSpaceId {
+        /// The number behind the last one.
+        next: u32,
+    },
 }
 
 /// A statement with its answer.

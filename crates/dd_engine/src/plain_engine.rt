@@ -1,22 +1,26 @@
 ghost use Rattle.std.specs.Prelude.{◌≡◌, ◌<◌, ◌^◌, [], IfErr, OnOk, length, true};
-ghost use Rattle.dd_engine.specs.Outcome.{is_run};
 ghost use Rattle.dd_catalog.specs.Catalog.{empty_catalog};
-ghost use Rattle.dd_engine.specs.Engine.{Adds, ArePlainFrom};
-ghost use Rattle.dd_engine.specs.History.{LegalHistory};
+ghost use Rattle.ddl_plan.specs.Outcome.{is_decided};
+ghost use Rattle.dd_engine.specs.Catalog.{new_session};
+ghost use Rattle.dd_engine.specs.Engine.{Adds, IsPlainHistory};
 
-use crate::answer_to::answer_to;
 use crate::history::{Entry, History};
-use crate::name_set::NameSet;
+use crate::settle::step;
+use crate::state::State;
 use dd_names::List;
-use ddl_words::Statement;
+use ddl_words::{SessionState, Statement};
+use plain_catalog::PlainCatalog;
 use std::alloc::{AllocError, Global};
 use std::marker::Model;
 
 /// A dictionary of one session over a catalog in memory, which begins without schemas. Contracts see its history.
+///
+/// Where there is no memory for what a statement changes, the catalog may be left with a part of it. Then it is dropped, and
+/// the statement and each later one are handed back.
 #[derive(Drop)]
 pub struct PlainEngine {
     alloc: Global,
-    schemas: NameSet,
+    state: Option<State>,
     entries: Vec<Entry>,
 }
 
@@ -29,7 +33,7 @@ impl Model for PlainEngine {
 
     ghost view = { λ e. e.entries.items };
 
-    ghost invariant = { λ e. IsSound e.schemas e.entries.items };
+    ghost invariant = { λ e. IsSound e.state e.entries.items };
 }
 
 impl PlainEngine {
@@ -39,31 +43,34 @@ impl PlainEngine {
     {
         PlainEngine {
             alloc,
-            schemas: NameSet::new(alloc),
+            state: Some(first_state(alloc)),
             entries: Vec::new(alloc),
         }
     }
 
-    /// Answers a statement of a kind that is run by one entry more, or hands it back for want of memory and stays as it is.
+    /// Answers a statement of a kind that is decided by one entry more, or hands it back for want of memory, and its history
+    /// stays as it is.
     pub fn answer(&mut self, statement: Statement) -> Result<(), (Statement, AllocError)>
         requires room { length self.old < 2 ^ 32 }
-        requires run { is_run statement ≡ true }
+        requires run { is_decided statement ≡ true }
         ensures ok { OnOk result (Adds self.old self.new statement) }
         ensures err { IfErr result (λ back. (back.0 ≡ statement) × (self.new ≡ self.old)) }
-        ensures legal { LegalHistory empty_catalog self.new }
-        ensures plain { ArePlainFrom 0 self.new }
+        ensures said { IsPlainHistory self.new }
     {
         if let Err(error) = self.entries.try_reserve(1) {
             return Err((statement, error));
         }
         let number = self.entries.len() as u32;
-        let answer = answer_to(self.alloc, &mut self.schemas, &statement);
+        let told = match step(self.alloc, &mut self.state, &statement) {
+            Ok(told) => told,
+            Err(error) => return Err((statement, error)),
+        };
         let entry = Entry {
             session: 0,
             number,
             statement,
-            answer,
-            spaces: List::new(self.alloc),
+            answer: told.answer,
+            spaces: told.spaces,
             stamp: 0,
         };
         match self.entries.push(entry) {
@@ -85,9 +92,26 @@ impl PlainEngine {
     {
         let PlainEngine {
             alloc: _,
-            schemas: _,
+            state: _,
             entries,
         } = self;
         List::from_vec(entries)
+    }
+}
+
+// No schema is there, and no number was drawn.
+fn first_state(alloc: Global) -> State
+    ensures catalog { result.catalog ≡ empty_catalog }
+    ensures session { result.session ≡ new_session 0 }
+    ensures next { result.next ≡ 1 }
+{
+    State {
+        catalog: PlainCatalog::new(alloc),
+        session: SessionState {
+            number: 0,
+            current: None,
+            tries: 31_536_000,
+        },
+        next: 1,
     }
 }

@@ -1,5 +1,5 @@
 ghost use Rattle.std.specs.Prelude.{◌≡◌, IfOk, true};
-ghost use Rattle.dd_engine.specs.Outcome.{is_run};
+ghost use Rattle.ddl_plan.specs.Outcome.{is_decided};
 
 use crate::{Answer, Entry, PlainEngine};
 use dd_names::Name;
@@ -8,7 +8,7 @@ use std::alloc::Global;
 use std::test::Fail;
 
 fn create(alloc: Global, if_not_exists: bool, name: &str) -> Result<Statement, Fail>
-    ensures { IfOk result (λ statement. is_run statement ≡ true) }
+    ensures { IfOk result (λ statement. is_decided statement ≡ true) }
 {
     let name = Name::read(alloc, name, false)?;
     Ok(Statement::CreateDatabase {
@@ -19,7 +19,7 @@ fn create(alloc: Global, if_not_exists: bool, name: &str) -> Result<Statement, F
 
 /// Whether the engine, which has a few entries, has one more.
 fn takes(engine: &mut PlainEngine, statement: Statement) -> bool
-    requires { is_run statement ≡ true }
+    requires { is_decided statement ≡ true }
 {
     engine.history().len() < 8 && engine.answer(statement).is_ok()
 }
@@ -31,6 +31,7 @@ fn said(answer: &Answer) -> (&'static str, usize) {
         Answer::Rows(listing) => ("rows", listing.rows.len()),
         Answer::Error(_) => ("error", 0),
         Answer::Memory => ("memory", 0),
+        Answer::NoSpaceId { .. } => ("number", 0),
     }
 }
 
@@ -73,5 +74,47 @@ fn statements_are_answered_in_order(rt: HostRuntime) -> Result<(), Fail> {
     ];
     assert_eq!(rt; history.len(), wanted.len());
     assert_eq!(rt; first_wrong(history.as_slice(), &wanted), None);
+    Ok(())
+}
+
+fn use_schema(alloc: Global, name: &str) -> Result<Statement, Fail>
+    ensures { IfOk result (λ statement. is_decided statement ≡ true) }
+{
+    let name = Name::read(alloc, name, false)?;
+    Ok(Statement::UseSchema { name })
+}
+
+fn drop_schema(alloc: Global, name: &str) -> Result<Statement, Fail>
+    ensures { IfOk result (λ statement. is_decided statement ≡ true) }
+{
+    let name = Name::read(alloc, name, false)?;
+    Ok(Statement::DropDatabase {
+        if_exists: false,
+        name,
+    })
+}
+
+#[test]
+fn a_statement_sees_those_before_it(rt: HostRuntime) -> Result<(), Fail> {
+    let alloc = rt.alloc();
+    let mut engine = PlainEngine::new(alloc);
+    assert!(rt; takes(&mut engine, Statement::ShowTables { schema: None }));
+    assert!(rt; takes(&mut engine, create(alloc, false, "d")?));
+    assert!(rt; takes(&mut engine, use_schema(alloc, "d")?));
+    assert!(rt; takes(&mut engine, Statement::ShowTables { schema: None }));
+    assert!(rt; takes(&mut engine, drop_schema(alloc, "d")?));
+    assert!(rt; takes(&mut engine, drop_schema(alloc, "d")?));
+    assert!(rt; takes(&mut engine, Statement::ShowTables { schema: None }));
+    let wanted = [
+        ("error", 0),
+        ("done", 0),
+        ("done", 0),
+        ("rows", 0),
+        ("done", 0),
+        ("error", 0),
+        ("error", 0),
+    ];
+    assert_eq!(rt; engine.history().len(), wanted.len());
+    assert_eq!(rt; first_wrong(engine.history(), &wanted), None);
     Ok(())
 }

@@ -3,7 +3,7 @@ use Rattle.std.proofs.Common.{◌≡◌, ℕ, ◌+◌, ◌<◌, ◌≤◌, Bool,
 use Rattle.std.specs.List.{AllByRecursion, prefix_len}
 use Rattle.std.proofs.lemmas.Bool.Decides.{nat_tests}
 use Rattle.ddl_words.specs.declared.statement.Statement.{Statement}
-use Rattle.dd_engine.specs.Outcome.{is_run}
+use Rattle.ddl_plan.specs.Outcome.{is_decided}
 use Rattle.script_read.specs.declared.script.Script.{Script}
 use Rattle.script_read.specs.Scripts.{IsFew}
 use Rattle.ddrun.specs.Unbuilt.{is_unbuilt, second_session, unbuilt_at, first_unbuilt}
@@ -11,7 +11,7 @@ use Rattle.ddrun.specs.Ending.{IsRunnable, AreRunnable}
 
 each_runs : (statements : List Statement) → length statements ≤ prefix_len (λ s. not (is_unbuilt s)) statements → AllByRecursion IsRunnable statements
 each_runs [] h = tt
-each_runs (s ∷ statements) h = elim (is_run s) as (λ v. is_run s ≡ v → length statements + 1 ≤ cond (not (not v)) (1 + prefix_len (λ s. not (is_unbuilt s)) statements) 0 → AllByRecursion IsRunnable (s ∷ statements)) [
+each_runs (s ∷ statements) h = elim (is_decided s) as (λ v. is_decided s ≡ v → length statements + 1 ≤ cond (not (not v)) (1 + prefix_len (λ s. not (is_unbuilt s)) statements) 0 → AllByRecursion IsRunnable (s ∷ statements)) [
   | true ↦ λ e more. (e, each_runs statements (omega arith))
   | false ↦ λ e more. absurd (omega arith)
 ] refl (omega arith)

@@ -1,12 +1,15 @@
 -- The history of one session, as the history of all sessions.
-use Rattle.std.proofs.Common.{◌≡◌, ℕ, ◌+◌, ◌<◌, ◌≤◌, ◌==◌, Bool, true, false, cond, List, [], ◌∷◌, map, take, length, get_or, refl, sym, ◌∙◌, ap, subst, arith}
+use Rattle.std.proofs.Common.{◌≡◌, ℕ, ◌+◌, ◌<◌, ◌≤◌, ◌==◌, Bool, true, false, cond, List, [], ◌∷◌, ◌++◌, map, take, length, get_or, refl, sym, ◌∙◌, ap, subst, arith}
 use Rattle.std.specs.List.{AllByRecursion}
 use Rattle.std.proofs.lemmas.Bool.Decides.{nat_tests}
+use Rattle.std.proofs.lemmas.List.{length_push, map_push, take_more}
 use Rattle.ddl_words.specs.declared.statement.Statement.{Statement}
 use Rattle.dd_engine.specs.declared.history.Entry.{Entry}
 use Rattle.dd_catalog.specs.Catalog.{empty_catalog}
-use Rattle.dd_engine.specs.Engine.{ArePlainFrom}
-use Rattle.dd_engine.specs.History.{part, LegalHistory, NumberedFrom}
+use Rattle.dd_engine.specs.Catalog.{new_session}
+use Rattle.dd_engine.specs.Engine.{Adds, ArePlainFrom, IsPlainHistory}
+use Rattle.dd_engine.specs.History.{part, NumberedFrom}
+use Rattle.dd_engine.proofs.Drawn.{had_numbers}
 use Rattle.script_read.specs.declared.script.Script.{Script}
 use Rattle.ddrun.specs.Ending.{statement_of_entry}
 use Rattle.ddrun.specs.Headline.{IsHistoryOf, AllAnswered, FirstAnswered, answered}
@@ -38,18 +41,45 @@ within : (n : ℕ) (history : List Entry) → ArePlainFrom n history → AllByRe
 within n [] plain = tt
 within n (e ∷ history) plain = (omega (arith, plain.0.session), within (n + 1) history plain.1)
 
+-- ## One entry more
+
+told_one_more : (old new : List Entry) (statement : Statement) → Adds old new statement → map statement_of_entry new ≡ map statement_of_entry old ++ statement ∷ []
+told_one_more old new statement adds =
+    ap (λ (l : List Entry). map statement_of_entry l) adds.last ∙ map_push statement_of_entry old adds.entry
+    ∙ ap (λ (s : Statement). map statement_of_entry old ++ s ∷ []) adds.same
+
+-- the first i statements have their entries, and then the next one has
+pub next_told : (old new : List Entry) (statements : List Statement) (i : ℕ) (statement : Statement) → i < length statements → statement ≡ get_or statements i statement
+    → map statement_of_entry old ≡ take i statements → Adds old new statement → map statement_of_entry new ≡ take (i + 1) statements
+next_told old new statements i statement less is told adds =
+    told_one_more old new statement adds ∙ ap (λ (l : List Statement). l ++ statement ∷ []) told
+    ∙ ap (λ (s : Statement). take i statements ++ s ∷ []) is ∙ sym (take_more statements i statement less)
+
+pub one_longer : (old new : List Entry) (statement : Statement) → Adds old new statement → length new ≡ length old + 1
+one_longer old new statement adds = ap (λ (l : List Entry). length l) adds.last ∙ length_push old adds.entry
+
+pub nothing_said : IsPlainHistory []
+nothing_said = record { legal = tt; plain = tt; numbers = tt }
+
+-- ## One session
+
 -- a list of one session
 pub one_script : (scripts : List Script) (script : Script) → 1 ≤ length scripts → length scripts < 2 → script ≡ get_or scripts 0 script → scripts ≡ script ∷ []
 one_script [] script some few is = absurd (omega arith)
 one_script (a ∷ []) script some few is = ap (λ (s : Script). s ∷ []) (sym is)
 one_script (a ∷ b ∷ rest) script some few is = absurd (omega arith)
 
-module _ (scripts : List Script) (script : Script) (is : scripts ≡ script ∷ []) (history : List Entry) (plain : ArePlainFrom 0 history) where
-  pub history_of : LegalHistory empty_catalog history → IsHistoryOf scripts history
-  history_of legal = subst (λ l. IsHistoryOf l history) (sym is) (record { legal = legal; numbered = each_numbered history plain; within = within 0 history plain })
+module _ (scripts : List Script) (script : Script) (is : scripts ≡ script ∷ []) (history : List Entry) (said : IsPlainHistory history) where
+  pub history_of : IsHistoryOf scripts history
+  history_of = subst (λ l. IsHistoryOf l history) (sym is) (record {
+    legal = said.legal;
+    numbered = each_numbered history said.plain;
+    within = within 0 history said.plain;
+    numbers = λ less. had_numbers empty_catalog new_session 1 history said.legal said.numbers (omega (arith, less));
+  })
 
   own : answered history 0 ≡ map statement_of_entry history
-  own = ap (λ (l : List Entry). map statement_of_entry l) (whole_part 0 history plain)
+  own = ap (λ (l : List Entry). map statement_of_entry l) (whole_part 0 history said.plain)
 
   pub all_answered : map statement_of_entry history ≡ script.statements → AllAnswered scripts history
   all_answered told = subst (λ l. AllAnswered l history) (sym is) (own ∙ told, tt)
@@ -59,4 +89,4 @@ module _ (scripts : List Script) (script : Script) (is : scripts ≡ script ∷ 
 
 -- without sessions there is no entry
 pub no_history : IsHistoryOf [] []
-no_history = record { legal = tt; numbered = λ s. tt; within = tt }
+no_history = record { legal = tt; numbered = λ s. tt; within = tt; numbers = λ less. tt }

@@ -4,7 +4,7 @@ use Rattle.std.specs.List.{AllByRecursion}
 use Rattle.std.specs.declared.result.Result.TheVariants as results
 use Rattle.edge_io.specs.Causes.{Rose}
 use Rattle.ddl_words.specs.declared.statement.Statement.{Statement}
-use Rattle.dd_engine.specs.Outcome.{is_run}
+use Rattle.ddl_plan.specs.Outcome.{is_decided}
 use Rattle.dd_engine.specs.declared.history.Entry.{Entry}
 use Rattle.script_cut.specs.declared.fault.ScriptFault.{ScriptFault}
 use Rattle.script_cut.specs.declared.fault.ScriptFault.TheVariants as faulty
@@ -22,7 +22,7 @@ statement_of_entry e = e.statement
 
 -- a statement of a kind that the dictionary runs
 abbrev pub IsRunnable : Statement → Type 0
-IsRunnable statement = is_run statement ≡ true
+IsRunnable statement = is_decided statement ≡ true
 
 -- 100,000 statements at most, each of a kind that is run
 pub record IsRunnableScript (script : Script) : Type 0 where

@@ -8,6 +8,7 @@ use Rattle.ddl_words.specs.declared.statement.Statement.{Statement}
 use Rattle.dd_engine.specs.declared.history.Entry.{Entry}
 use Rattle.dd_catalog.specs.Catalog.{empty_catalog}
 use Rattle.dd_engine.specs.History.{part, LegalHistory, IsNumbered}
+use Rattle.dd_engine.specs.Drawn.{HadNumber}
 use Rattle.script_cut.specs.declared.fault.ScriptFault.{ScriptFault}
 use Rattle.script_read.specs.declared.script.Script.{Script}
 use Rattle.script_read.specs.Scripts.{scripts}
@@ -18,11 +19,13 @@ use Rattle.ddrun.specs.Printed.{printed}
 
 -- ## The history
 
--- A dictionary of one thread that begins without schemas makes this history of these sessions.
+-- A dictionary of one thread that begins without schemas makes this history of these sessions. Where the numbers suffice, it
+-- says of no statement that none is left.
 pub record IsHistoryOf (sessions : List Script) (history : List Entry) : Type 0 where
   pub legal : LegalHistory empty_catalog history
   pub numbered : IsNumbered history
   pub within : AllByRecursion (λ e. e.session < length sessions) history
+  pub numbers : length history < 4294967295 → AllByRecursion (λ e. HadNumber e.answer) history
 
 -- the statements that a session has had answered, in order
 abbrev pub answered : List Entry → ℕ → List Statement

@@ -7,7 +7,7 @@ use Rattle.dd_objects.specs.declared.listing.Cell.{Cell}
 use Rattle.dd_objects.specs.declared.listing.Cell.TheVariants.{Null, Value}
 use Rattle.dd_objects.specs.declared.listing.Listing.{Listing}
 use Rattle.dd_engine.specs.declared.history.Answer.{Answer}
-use Rattle.dd_engine.specs.declared.history.Answer.TheVariants.{Done, Rows, Error, Memory}
+use Rattle.dd_engine.specs.declared.history.Answer.TheVariants.{Done, Rows, Error, Memory, NoSpaceId}
 use Rattle.dd_engine.specs.declared.history.Entry.{Entry}
 use Rattle.dd_engine.specs.History.{part}
 use Rattle.script_read.specs.declared.script.Script.{Script}
@@ -43,11 +43,16 @@ listing_text listing = line_of listing.header ++ flat_map row_text listing.rows
 abbrev pub error_line : ErrorValue → List ℕ
 error_line error = codes "ERROR " ++ decimal error.number ++ codes " (" ++ error_state error ++ codes "): " ++ error_text error ++ 10 ∷ []
 
+-- there is no number for a schema or a table
+abbrev pub no_number_left : ErrorValue
+no_number_left = record { number = 9002; args = [] }
+
 abbrev pub answer_text : Answer → List ℕ
 answer_text Done = codes "OK" ++ 10 ∷ []
 answer_text (Rows listing) = listing_text listing
 answer_text (Error error) = error_line error
 answer_text Memory = codes "NO MEMORY" ++ 10 ∷ []
+answer_text (NoSpaceId next) = error_line no_number_left
 
 abbrev pub entry_text : Entry → List ℕ
 entry_text entry = answer_text entry.answer

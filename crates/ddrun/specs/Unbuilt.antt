@@ -1,12 +1,12 @@
 -- What the program doesn't run yet.
 use Rattle.std.specs.Prelude.{ℕ, Bool, not, List, [], ◌∷◌, Option, None, Some, position}
 use Rattle.ddl_words.specs.declared.statement.Statement.{Statement}
-use Rattle.dd_engine.specs.Outcome.{is_run}
+use Rattle.ddl_plan.specs.Outcome.{is_decided}
 use Rattle.script_read.specs.declared.script.Script.{Script}
 
 -- a statement of a kind that isn't run
 abbrev pub is_unbuilt : Statement → Bool
-is_unbuilt statement = not (is_run statement)
+is_unbuilt statement = not (is_decided statement)
 
 -- a session behind the first
 abbrev pub second_session : List Script → Option (ℕ × ℕ)

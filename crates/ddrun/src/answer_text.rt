@@ -1,11 +1,11 @@
 // The text of an answer.
 ghost use Rattle.std.specs.Prelude.{◌≡◌, ◌++◌, IfOk, OnOk, map};
 ghost use Rattle.std.specs.List.{flat_map};
-ghost use Rattle.ddrun.specs.Printed.{answer_text, behind_tab, cell_text, entry_text, error_line, escaped, line_of, listing_text, row_text};
+ghost use Rattle.ddrun.specs.Printed.{answer_text, behind_tab, cell_text, entry_text, error_line, escaped, line_of, listing_text, no_number_left, row_text};
 
 use dd_engine::{Answer, Entry};
 use dd_errors::SqlError;
-use dd_names::Text;
+use dd_names::{List, Text};
 use dd_objects::{Cell, ListRow, Listing};
 use std::alloc::{AllocError, Global};
 
@@ -26,7 +26,15 @@ fn push_answer(alloc: Global, out: &mut Vec<u8>, answer: &Answer) -> Result<(), 
         Answer::Rows(listing) => push_listing(out, listing),
         Answer::Error(error) => push_error(alloc, out, error),
         Answer::Memory => out.extend_from_slice(b"NO MEMORY\n"),
+        Answer::NoSpaceId { .. } => push_error(alloc, out, &no_number_left(alloc)),
     }
+}
+
+#[tactic(auto, unfolding(dd_errors::specs::Errors::form_of))]
+fn no_number_left(alloc: Global) -> SqlError
+    ensures { result ≡ no_number_left }
+{
+    SqlError::of(9002, List::new(alloc))
 }
 
 fn push_error(alloc: Global, out: &mut Vec<u8>, error: &SqlError) -> Result<(), AllocError>

@@ -1,11 +1,9 @@
 // The whole run: reads, answers, prints.
-ghost use Rattle.std.specs.Prelude.{◌≡◌, ◌↔◌, ◌+◌, ◌≤◌, ℕ, [], All, None, Ok, IfErr, IfOk, OnOk, length, map, take};
+ghost use Rattle.std.specs.Prelude.{◌≡◌, ◌↔◌, ◌+◌, ◌≤◌, ℕ, [], All, None, Ok, IfErr, IfOk, OnErr, OnOk, ◌<◌, ◌^◌, length, map, take};
 ghost use Rattle.std.specs.Io.KnownBytes.{IsAtEnd};
 ghost use Rattle.edge_io.specs.Causes.{Rose};
 ghost use Rattle.edge_io.specs.Content.{ConsumesAtMost};
-ghost use Rattle.dd_catalog.specs.Catalog.{empty_catalog};
-ghost use Rattle.dd_engine.specs.Engine.{ArePlainFrom};
-ghost use Rattle.dd_engine.specs.History.{LegalHistory};
+ghost use Rattle.dd_engine.specs.Engine.{Adds, IsPlainHistory};
 ghost use Rattle.ddrun.specs.Headline.{AllAnswered, AreRun, FirstAnswered, Headline, InputIs, IsDone, IsGood, IsHistoryOf};
 ghost use Rattle.ddrun.specs.Ending.{AreRunnable, IsRun, IsRunnable, IsRefused, IsUnread, statement_of_entry, status_of, status_of_fault};
 ghost use Rattle.ddrun.specs.Unbuilt.{first_unbuilt};
@@ -164,19 +162,31 @@ fn answer_scripts(alloc: Global, scripts: &[Script]) -> (History, Result<(), All
 fn answer_all(alloc: Global, statements: &[Statement]) -> (History, Result<(), AllocError>)
     requires few { length statements.now ≤ 100000 }
     requires each { All IsRunnable statements.now }
-    ensures legal { LegalHistory empty_catalog result.0 }
-    ensures plain { ArePlainFrom 0 result.0 }
+    ensures said { IsPlainHistory result.0 }
     ensures all { OnOk result.1 (map statement_of_entry result.0 ≡ statements.now) }
     ensures first { (n : ℕ) × (map statement_of_entry result.0 ≡ take n statements.now) }
 {
     let mut engine = PlainEngine::new(alloc);
     'statements: for statement in statements {
-        let Ok(statement) = statement.copy() else {
-            return (engine.take(), Err(AllocError));
-        };
-        if engine.answer(statement).is_err() {
-            return (engine.take(), Err(AllocError));
+        if let Err(error) = answer_next(&mut engine, statement) {
+            return (engine.take(), Err(error));
         }
     }
     (engine.take(), Ok(()))
+}
+
+// Answers one statement more, or nothing for want of memory.
+fn answer_next(engine: &mut PlainEngine, statement: &Statement) -> Result<(), AllocError>
+    requires room { length engine.old < 2 ^ 32 }
+    requires run { IsRunnable statement.now }
+    requires said { IsPlainHistory engine.old }
+    ensures said { IsPlainHistory engine.new }
+    ensures ok { OnOk result (Adds engine.old engine.new statement.now) }
+    ensures err { OnErr result (engine.new ≡ engine.old) }
+{
+    let statement = statement.copy()?;
+    match engine.answer(statement) {
+        Ok(()) => Ok(()),
+        Err((_, error)) => Err(error),
+    }
 }

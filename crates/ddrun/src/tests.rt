@@ -73,14 +73,14 @@ const SHOWN: (&str, &str, usize) = (
 /// Inputs of which nothing is answered.
 const REFUSED: [(&str, Status); 11] = [
     (
-        "session a\nSHOW TABLES;",
+        "session a\nTRUNCATE t;",
         Status::NotBuilt {
             session: 0,
             number: 0,
         },
     ),
     (
-        "session a\nSHOW DATABASES; x; USE d; session b\nUSE d;",
+        "session a\nSHOW DATABASES; x; TRUNCATE t; session b\nUSE d;",
         Status::NotBuilt {
             session: 0,
             number: 2,
@@ -147,15 +147,16 @@ const REFUSED: [(&str, Status); 11] = [
 /// Words that ask for nothing that the program does.
 const OTHER_WORDS: [&[&str]; 4] = [&[], &["run", "x"], &["RUN"], &["grow", "1"]];
 
+/// How a run has ended, what it has printed, and how many entries its history has.
 #[derive(Drop)]
-struct Outcome {
+pub struct Outcome {
     status: Status,
     output: Vec<u8>,
     entries: usize,
 }
 
-// Runs on these words and this input; the calls of the source and of the sink with these numbers fail.
-fn run_on(
+/// Runs on these words and this input; the calls of the source and of the sink with these numbers fail.
+pub fn run_on(
     alloc: Global,
     words: &[&str],
     input: &str,
@@ -174,7 +175,7 @@ fn run_on(
 }
 
 /// Whether a run ended so.
-fn has_ended(outcome: &Outcome, status: Status, output: &str, entries: usize) -> bool {
+pub fn has_ended(outcome: &Outcome, status: Status, output: &str, entries: usize) -> bool {
     outcome.status == status
         && outcome.output.as_slice() == output.as_bytes()
         && outcome.entries == entries

@@ -5,7 +5,7 @@ ghost use Rattle.ddl_words.specs.declared.statement.Statement.{Statement as Word
 ghost use Rattle.script_read.specs.Scripts.{IsFew};
 ghost use Rattle.ddrun.specs.Unbuilt.{is_unbuilt, first_unbuilt};
 
-use dd_engine::is_run;
+use ddl_plan::is_decided;
 use ddl_words::Statement;
 use script_read::Script;
 
@@ -13,7 +13,9 @@ use script_read::Script;
 fn first_other(statements: &[Statement]) -> Option<usize>
     ensures { result ≡ position is_unbuilt statements.now }
 {
-    statements.iter().position(|statement| !is_run(statement))
+    statements
+        .iter()
+        .position(|statement| !is_decided(statement))
 }
 
 /// The least session and number of what isn't run, if there is something.

@@ -1,0 +1,60 @@
+-- What answers leave of a state.
+use Rattle.std.specs.Prelude.{◌≡◌, ◌≢◌, ◌<◌, ◌≤◌, ℕ, Bool, true, false, ◌||◌, List, [], ◌∷◌, Option, Some, None, is_some, map}
+use Rattle.std.specs.List.{list_any}
+use Rattle.std.specs.Option.{option_map}
+use Rattle.std.proofs.Common.{sym, ◌∙◌, ap, subst, refl, arith}
+use Rattle.dd_errors.specs.Errors.{ErrorValue}
+use Rattle.ddl_words.specs.declared.statement.Statement.{Statement}
+use Rattle.dd_catalog.specs.Catalog.{all_of}
+use Rattle.dd_catalog.specs.Walks.{Walk, Found, fine, refused, needs, run}
+use Rattle.dd_catalog.specs.WalkLaws.{IsSettled}
+use Rattle.ddl_decided.specs.Choices.{Change, Choice, Same, Changes, Lists}
+use Rattle.ddl_decided.specs.Decided.{change_of}
+use Rattle.ddl_decided.specs.declared.decided.Edit.{Edit}
+use Rattle.ddl_plan.specs.Outcome.{outcome, outcome_over, is_decided}
+use Rattle.ddl_plan.proofs.Whole.{decided_has_check}
+use Rattle.dd_engine.specs.declared.history.Answer.{Answer}
+use Rattle.dd_engine.specs.declared.history.Answer.TheVariants.{Done, Rows, Error, Memory, NoSpaceId}
+use Rattle.dd_engine.specs.declared.state.State.{State}
+use Rattle.dd_engine.specs.Drawn.{IsOutAt}
+use Rattle.dd_engine.specs.Engine.{Answered, Leaves, Settles}
+use Rattle.dd_engine.specs.History.{AnswersFound, choice_found, done_of, draws}
+use Rattle.dd_engine.proofs.Deciding.{whole_settled}
+
+false_true : false ≢ true
+false_true e = cc
+
+-- where nothing is done the state stays
+pub stays : (old : State) → Leaves old Same old []
+stays old = record { catalog = refl; session = refl; next = refl; room = λ e. absurd (false_true e); taken = refl }
+
+pub nothing_done : (found : Found ErrorValue Choice) (old : State) (answer : Answer) → AnswersFound found answer → IsOutAt old.next answer → done_of (choice_found found) answer ≡ Same → Settles found old answer old []
+nothing_done found old answer answers out same = record { answers = answers; out = out; leaves = subst (λ (choice : Choice). Leaves old choice old []) (sym same) (stays old) }
+
+-- for want of memory any outcome is answered so
+pub memory_answers : (found : Found ErrorValue Choice) → IsSettled found → AnswersFound found Memory
+memory_answers (fine Same) is = tt
+memory_answers (fine (Changes changes session)) is = tt
+memory_answers (fine (Lists listing)) is = tt
+memory_answers (refused error) is = tt
+memory_answers (needs key) is = absurd is
+
+-- a statement that is decided has an outcome
+pub record Outcome (old : State) (statement : Statement) : Type 0 where
+  pub found : Found ErrorValue Choice
+  pub is : outcome_over old.catalog old.session statement ≡ Some found
+  pub settled : IsSettled found
+
+pub outcome_there : (old : State) (statement : Statement) → is_decided statement ≡ true → Outcome old statement
+outcome_there old statement is = on (outcome old.session statement) refl (decided_has_check old.session statement is)
+  where
+    on : (check : Option (Walk ErrorValue Choice)) → outcome old.session statement ≡ check → is_some check ≡ true → Outcome old statement
+    on None here e = absurd (false_true e)
+    on (Some check) here e =
+        let found : Found ErrorValue Choice = run (all_of old.catalog) check in
+        let there : outcome_over old.catalog old.session statement ≡ Some found = ap (option_map (run (all_of old.catalog))) here in
+        record { found = found; is = there; settled = whole_settled old.catalog (outcome old.session statement) found there }
+
+pub any_mapped : (test : Change → Bool) (edits : List Edit) → list_any (λ edit. test (change_of edit)) edits ≡ list_any test (map change_of edits)
+any_mapped test [] = refl
+any_mapped test (edit ∷ edits) = ap (λ rest. test (change_of edit) || rest) (any_mapped test edits)

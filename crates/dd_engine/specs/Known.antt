@@ -1,0 +1,34 @@
+-- What is known while a statement is decided over a whole catalog.
+use Rattle.std.specs.Prelude.{◌≡◌, ◌<◌, ℕ, Option, Some, None}
+use Rattle.std.specs.Option.{option_map}
+use Rattle.dd_names.specs.declared.object_name.ObjectKey.{ObjectKey}
+use Rattle.dd_errors.specs.Errors.{ErrorValue}
+use Rattle.dd_catalog.specs.declared.object.Object.{Object}
+use Rattle.dd_catalog.specs.Catalog.{Catalog, sight_of, all_of}
+use Rattle.dd_catalog.specs.Sights.{Sight}
+use Rattle.dd_catalog.specs.Walks.{Walk, Found, run}
+use Rattle.dd_catalog.specs.WalkLaws.{Look, IsOf, left}
+use Rattle.dd_catalog.specs.Follow.{sights}
+use Rattle.ddl_decided.specs.Choices.{Choice}
+use Rattle.ddl_decided.specs.Decided.{found_of}
+use Rattle.ddl_decided.specs.declared.decided.Decided.{Decided}
+use Rattle.plain_catalog.specs.declared.part.Part.{Part}
+use Rattle.plain_catalog.specs.Known.{known_in}
+
+-- what is seen of what is known
+abbrev pub seen_in : Part → Look
+seen_in part = sights (known_in part)
+
+-- what is known of the catalog stands there
+abbrev pub IsKnown : Catalog → Part → Type 0
+IsKnown cat part = IsOf (sight_of cat) (seen_in part)
+
+-- of the keys at which the check looks, the number of those at which nothing is known
+abbrev pub left_in : Catalog → Option (Walk ErrorValue Choice) → Part → ℕ
+left_in cat None part = 0
+left_in cat (Some check) part = left (sight_of cat) (seen_in part) check
+
+-- it is decided as over the whole catalog, or one more key is known
+abbrev pub Turned : Catalog → Option (Walk ErrorValue Choice) → Part → Part → Option Decided → Type 0
+Turned cat check old new (Some decided) = option_map (run (all_of cat)) check ≡ Some (found_of decided)
+Turned cat check old new None = IsKnown cat new × (left_in cat check new < left_in cat check old)
