@@ -4,18 +4,15 @@ use Rattle.std.specs.Option.{option_map}
 use Rattle.std.proofs.Common.{sym, ◌∙◌, ap, subst, refl}
 use Rattle.dd_names.specs.declared.object_name.ObjectKey.{ObjectKey}
 use Rattle.dd_errors.specs.Errors.{ErrorValue}
-use Rattle.ddl_words.specs.declared.session.SessionState.{SessionState}
-use Rattle.ddl_words.specs.declared.statement.Statement.{Statement}
 use Rattle.dd_catalog.specs.declared.object.Object.{Object}
 use Rattle.dd_catalog.specs.Catalog.{Catalog, sight_of, all_of}
 use Rattle.dd_catalog.specs.Sights.{Sight, sight}
 use Rattle.dd_catalog.specs.Walks.{Walk, Found, needs, run}
-use Rattle.dd_catalog.specs.WalkLaws.{Look, IsOf, Extends, IsSettled, needed_unknown, fewer_left}
+use Rattle.dd_catalog.specs.WalkLaws.{Extends, IsSettled, needed_unknown, fewer_left}
 use Rattle.ddl_decided.specs.Choices.{Choice}
 use Rattle.ddl_decided.specs.Decided.{found_of}
 use Rattle.ddl_decided.specs.declared.decided.Decided.{Decided}
 use Rattle.ddl_decided.specs.declared.decided.Decided.TheVariants.{Edits, Same, Rows, Refused, Need}
-use Rattle.ddl_plan.specs.Outcome.{outcome, outcome_over}
 use Rattle.ddl_plan.proofs.Whole.{settled, known_settles}
 use Rattle.plain_catalog.specs.declared.part.Part.{Part}
 use Rattle.plain_catalog.specs.Known.{known_in}

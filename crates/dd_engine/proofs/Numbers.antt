@@ -1,15 +1,13 @@
 -- The numbers that an entry draws, and the spaces of the tables behind it.
-use Rattle.std.specs.Prelude.{◌≡◌, ◌⊎◌, ◌<◌, ◌≤◌, ◌+◌, ℕ, Bool, true, false, ◌||◌, List, [], ◌∷◌, Option, Some, None}
+use Rattle.std.specs.Prelude.{◌≡◌, ◌⊎◌, ◌<◌, ◌≤◌, ℕ, Bool, true, false, ◌||◌, List, [], ◌∷◌, Option, Some, None}
 use Rattle.std.specs.List.{list_any}
 use Rattle.std.specs.Option.{option_map}
-use Rattle.std.proofs.Common.{sym, ◌∙◌, ap, subst, refl, arith, inl, inr}
-use Rattle.dd_names.specs.declared.object_name.ObjName.{ObjName}
+use Rattle.std.proofs.Common.{sym, subst, refl, arith, inl, inr}
 use Rattle.dd_errors.specs.Errors.{ErrorValue}
-use Rattle.dd_definitions.specs.declared.parts.TableParts.{TableParts}
 use Rattle.ddl_words.specs.declared.session.SessionState.{SessionState}
 use Rattle.ddl_words.specs.declared.statement.Statement.{Statement}
-use Rattle.dd_catalog.specs.Catalog.{Catalog, Table, all_of}
-use Rattle.dd_catalog.specs.Valid.{Has, IsValid}
+use Rattle.dd_catalog.specs.Catalog.{Catalog, all_of}
+use Rattle.dd_catalog.specs.Valid.{IsValid}
 use Rattle.dd_catalog.specs.Walks.{Walk, Found, fine, refused, needs, run}
 use Rattle.ddl_decided.specs.Choices.{After, Gone, Schema, FreshTable, KeptTable, View, Change, Choice, Same, Changes, Lists, catalog_behind, makes_space, takes_space}
 use Rattle.rules_valid.specs.Keeps.{HasSpace, MakesOneSpace}

@@ -1,8 +1,8 @@
 -- What answers leave of a state.
-use Rattle.std.specs.Prelude.{◌≡◌, ◌≢◌, ◌<◌, ◌≤◌, ℕ, Bool, true, false, ◌||◌, List, [], ◌∷◌, Option, Some, None, is_some, map}
+use Rattle.std.specs.Prelude.{◌≡◌, ◌≢◌, Bool, true, false, ◌||◌, List, [], ◌∷◌, Option, Some, None, is_some, map}
 use Rattle.std.specs.List.{list_any}
 use Rattle.std.specs.Option.{option_map}
-use Rattle.std.proofs.Common.{sym, ◌∙◌, ap, subst, refl, arith}
+use Rattle.std.proofs.Common.{sym, ap, subst, refl}
 use Rattle.dd_errors.specs.Errors.{ErrorValue}
 use Rattle.ddl_words.specs.declared.statement.Statement.{Statement}
 use Rattle.dd_catalog.specs.Catalog.{all_of}
@@ -14,11 +14,11 @@ use Rattle.ddl_decided.specs.declared.decided.Edit.{Edit}
 use Rattle.ddl_plan.specs.Outcome.{outcome, outcome_over, is_decided}
 use Rattle.ddl_plan.proofs.Whole.{decided_has_check}
 use Rattle.dd_engine.specs.declared.history.Answer.{Answer}
-use Rattle.dd_engine.specs.declared.history.Answer.TheVariants.{Done, Rows, Error, Memory, NoSpaceId}
+use Rattle.dd_engine.specs.declared.history.Answer.TheVariants.{Memory}
 use Rattle.dd_engine.specs.declared.state.State.{State}
 use Rattle.dd_engine.specs.Drawn.{IsOutAt}
-use Rattle.dd_engine.specs.Engine.{Answered, Leaves, Settles}
-use Rattle.dd_engine.specs.History.{AnswersFound, choice_found, done_of, draws}
+use Rattle.dd_engine.specs.Engine.{Leaves, Settles}
+use Rattle.dd_engine.specs.History.{AnswersFound, choice_found, done_of}
 use Rattle.dd_engine.proofs.Deciding.{whole_settled}
 
 false_true : false ≢ true

@@ -1,5 +1,5 @@
 -- A sound dictionary stays so by one entry more.
-use Rattle.std.proofs.Common.{◌≡◌, ℕ, ◌==◌, ◌<◌, ◌≤◌, Bool, true, List, [], ◌∷◌, ◌++◌, length, refl, ap, sym, ◌∙◌, subst, if◌then◌else◌, ◌+◌, arith}
+use Rattle.std.proofs.Common.{◌≡◌, ℕ, ◌==◌, ◌<◌, ◌≤◌, true, List, [], ◌∷◌, ◌++◌, length, ap, sym, ◌∙◌, subst, if◌then◌else◌, arith}
 use Rattle.std.proofs.lemmas.Bool.{true≢false}
 use Rattle.std.specs.Prelude.{Option, Some, None, is_some}
 use Rattle.std.specs.FinMap as finite_map
@@ -16,7 +16,7 @@ use Rattle.dd_engine.specs.declared.history.Entry.{Entry}
 use Rattle.dd_engine.specs.declared.state.State.{State}
 use Rattle.dd_engine.specs.Catalog.{new_session}
 use Rattle.dd_engine.specs.Drawn.{DrawsNext, behind, next_left, spaces_of}
-use Rattle.dd_engine.specs.Engine.{Answered, AreBelow, IsPlain, IsPlainHistory, IsSound, Stands, Steps}
+use Rattle.dd_engine.specs.Engine.{Answered, AreBelow, IsPlain, IsSound, Stands, Steps}
 use Rattle.dd_engine.specs.History.{Answers, choice_found, choice_in, done_of, draws, TakesSpaces, space_in, effect, Step, LegalHistory, after_all, sessions_left}
 use Rattle.dd_engine.proofs.Numbers.{space_draws, not_less, one_more, in_range, taken, space_taken, spaces_below}
 use Rattle.dd_engine.proofs.Steps.{StepByStep-push, catalog_left-push, sessions_left-push, next_left-push, ArePlainFrom-push, DrawsFrom-push}

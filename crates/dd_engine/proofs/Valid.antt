@@ -14,7 +14,7 @@ use Rattle.ddl_plan.proofs.Kept.{outcome_kept}
 use Rattle.dd_engine.specs.declared.history.Answer.{Answer}
 use Rattle.dd_engine.specs.declared.history.Answer.TheVariants.{Done, Rows, Error, Memory, NoSpaceId}
 use Rattle.dd_engine.specs.declared.history.Entry.{Entry}
-use Rattle.dd_engine.specs.History.{choice_found, choice_in, done_of, TakesSpaces, space_in, Step, StepByStep, catalog_after, sessions_after, catalog_left}
+use Rattle.dd_engine.specs.History.{choice_found, choice_in, done_of, TakesSpaces, space_in, StepByStep, catalog_after, sessions_after, catalog_left}
 
 -- the number that an entry takes is new where it takes one
 number_is_new : (cat : Catalog) (takes : Bool) (spaces : List ℕ) → TakesSpaces cat takes spaces → takes ≡ true → IsNewSpace cat (space_in spaces)

@@ -1,12 +1,9 @@
 -- What is known while a statement is decided over a whole catalog.
 use Rattle.std.specs.Prelude.{◌≡◌, ◌<◌, ℕ, Option, Some, None}
 use Rattle.std.specs.Option.{option_map}
-use Rattle.dd_names.specs.declared.object_name.ObjectKey.{ObjectKey}
 use Rattle.dd_errors.specs.Errors.{ErrorValue}
-use Rattle.dd_catalog.specs.declared.object.Object.{Object}
 use Rattle.dd_catalog.specs.Catalog.{Catalog, sight_of, all_of}
-use Rattle.dd_catalog.specs.Sights.{Sight}
-use Rattle.dd_catalog.specs.Walks.{Walk, Found, run}
+use Rattle.dd_catalog.specs.Walks.{Walk, run}
 use Rattle.dd_catalog.specs.WalkLaws.{Look, IsOf, left}
 use Rattle.dd_catalog.specs.Follow.{sights}
 use Rattle.ddl_decided.specs.Choices.{Choice}

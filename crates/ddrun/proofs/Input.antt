@@ -1,5 +1,5 @@
 -- The bytes that were read, as the whole input.
-use Rattle.std.proofs.Common.{◌≡◌, ℕ, ◌+◌, ◌<◌, ◌≤◌, Bool, true, false, cond, not, nat_lt, List, ◌++◌, length, refl, sym, ◌∙◌, ap, arith, Option, None, Some, length-append, Result, Err}
+use Rattle.std.proofs.Common.{◌≡◌, ℕ, ◌<◌, ◌≤◌, Bool, true, false, cond, not, nat_lt, List, ◌++◌, length, refl, sym, ◌∙◌, ap, arith, Option, None, Some, length-append, Result, Err}
 use Rattle.std.proofs.lemmas.Bool.Decides.{nat_tests}
 use Rattle.std.proofs.lemmas.List.{append-nil}
 use Rattle.std.specs.Io.KnownBytes.{Consumes, IsAtEnd}

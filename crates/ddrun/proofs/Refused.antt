@@ -1,5 +1,5 @@
 -- An input that isn't run, as the definitions find it.
-use Rattle.std.proofs.Common.{◌≡◌, ℕ, ◌≤◌, Bool, true, false, cond, not, nat_lt, length, List, refl, sym, ◌∙◌, ap, ◌⊎◌, inl, inr, arith, Option, None, Some, Result, Ok, Err}
+use Rattle.std.proofs.Common.{◌≡◌, ℕ, ◌≤◌, Bool, true, false, cond, not, nat_lt, length, List, refl, sym, ◌∙◌, ◌⊎◌, inl, inr, arith, Option, None, Some, Result, Ok, Err}
 use Rattle.std.specs.Prelude.{IfOk, IfErr, OnOk}
 use Rattle.std.specs.List.{AllByRecursion}
 use Rattle.std.specs.Str.{is_utf8}
@@ -12,8 +12,8 @@ use Rattle.script_read.specs.Scripts.{scripts, scripts_in, IsFew}
 use Rattle.ddrun.specs.declared.status.Status.{Status}
 use Rattle.ddrun.specs.declared.status.Status.TheVariants as ends
 use Rattle.ddrun.specs.Unbuilt.{first_unbuilt}
-use Rattle.ddrun.specs.Headline.{InputIs, IsUnbuilt, AreRun}
-use Rattle.ddrun.specs.Ending.{IsRefused, IsUnbuiltIn, IsUnread, AreRunnable, status_of_fault}
+use Rattle.ddrun.specs.Headline.{InputIs, AreRun}
+use Rattle.ddrun.specs.Ending.{IsRefused, IsUnread, AreRunnable, status_of_fault}
 use Rattle.ddrun.proofs.Runnable.{sessions_run}
 
 abbrev Found : Type 0

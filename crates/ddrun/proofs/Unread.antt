@@ -1,7 +1,6 @@
 -- A run that has no sessions.
-use Rattle.std.proofs.Common.{◌≡◌, ℕ, List, [], ◌≤◌, arith, refl, subst, sym, Option, None, Some}
+use Rattle.std.proofs.Common.{◌≡◌, ℕ, List, [], arith, refl, subst, sym, Option, None, Some}
 use Rattle.std.specs.Io.KnownBytes.{Keeps}
-use Rattle.edge_io.specs.Content.{AppendsPrefix}
 use Rattle.edge_io.proofs.Told.{appends_nothing}
 use Rattle.dd_engine.specs.declared.history.Entry.{Entry}
 use Rattle.ddrun.specs.declared.status.Status.{Status}

@@ -1,5 +1,5 @@
 -- A text that is written piece by piece.
-use Rattle.std.proofs.Common.{◌≡◌, ℕ, ◌+◌, ◌≤◌, List, [], ◌++◌, length, take, sym, ◌∙◌, ap, subst, arith, append_assoc, length-append, Option, Result, Ok, Err, OnOk, OnErr, IsErrOf}
+use Rattle.std.proofs.Common.{◌≡◌, ℕ, ◌+◌, List, [], ◌++◌, length, take, sym, ◌∙◌, ap, subst, arith, append_assoc, length-append, Option, Result, Ok, Err}
 use Rattle.std.proofs.lemmas.List.{append-nil, take-append-le}
 use Rattle.std.proofs.Math.Seq.{take-append-add}
 use Rattle.std.specs.Io.KnownBytes.{Appends}
@@ -7,7 +7,7 @@ use Rattle.edge_io.specs.Causes.{Rose}
 use Rattle.edge_io.specs.Content.{AppendsPrefix}
 use Rattle.edge_io.proofs.Told.{appends_nothing, appends_then}
 use Rattle.ddrun.specs.declared.print.PrintFault.{PrintFault}
-use Rattle.ddrun.specs.declared.print.PrintFault.TheVariants.{WriteFault, Memory}
+use Rattle.ddrun.specs.declared.print.PrintFault.TheVariants.{Memory}
 use Rattle.ddrun.specs.Writes.{Writes}
 
 abbrev Told : Type 0

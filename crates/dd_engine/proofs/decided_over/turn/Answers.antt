@@ -1,4 +1,4 @@
-use Rattle.std.proofs.Common.{◌≡◌, ◌∙◌, ap, sym, Some}
+use Rattle.std.proofs.Common.{◌∙◌, ap, Some}
 use Rattle.ddl_decided.specs.declared.decided.Decided.{Decided}
 use Rattle.ddl_decided.specs.Decided.{found_of}
 use Rattle.ddl_plan.specs.Outcome.{outcome}

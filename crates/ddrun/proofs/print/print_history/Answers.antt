@@ -1,4 +1,4 @@
-use Rattle.std.proofs.Common.{◌≡◌, ℕ, ◌+◌, drop, subst, ap, sym, List, arith}
+use Rattle.std.proofs.Common.{◌+◌, drop, arith}
 use Rattle.ddrun.specs.Printed.{printed_from, printed, session_text}
 use Rattle.ddrun.proofs.Writing.{next, stopped}
 use Rattle.ddrun.proofs.Printing.{sessions_from, session_text_is}

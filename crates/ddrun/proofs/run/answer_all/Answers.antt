@@ -1,5 +1,5 @@
-use Rattle.std.proofs.Common.{◌≡◌, ◌∙◌, subst, sym, arith}
-use Rattle.ddrun.proofs.Sessions.{next_told, one_longer, nothing_said}
+use Rattle.std.proofs.Common.{arith}
+use Rattle.ddrun.proofs.Sessions.{next_told, one_longer}
 use Rattle.ddrun.proofs.run.answer_all.Goals as goal
 
 pub statements-preserved : goal.statements-preserved

@@ -1,4 +1,4 @@
-use Rattle.std.proofs.Common.{◌≡◌, ◌∙◌, ap, take, List}
+use Rattle.std.proofs.Common.{◌∙◌, ap, take, List}
 use Rattle.std.proofs.lemmas.Result.{on_ok_weaker}
 use Rattle.ddl_words.specs.declared.statement.Statement.{Statement}
 use Rattle.ddrun.proofs.Sessions.{one_script, history_of, all_answered, first_answered}

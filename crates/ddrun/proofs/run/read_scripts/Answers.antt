@@ -1,4 +1,4 @@
-use Rattle.std.proofs.Common.{◌≡◌, sym, ap, subst, IfOk, Ok, length, ◌≤◌}
+use Rattle.std.proofs.Common.{sym, subst, length, ◌≤◌}
 use Rattle.std.specs.Io.KnownBytes.{IsAtEnd}
 use Rattle.script_read.specs.Scripts.{scripts}
 use Rattle.ddrun.specs.Headline.{InputIs}
