@@ -1,15 +1,16 @@
 #!/usr/bin/env python3
 """Times 8,000 tables that one session makes and shows, and prints how the last 1,000 compare with the first 1,000.
 
-usage: bench/tables.py        (run by hand, after the gate)
+usage: bench/tables.py        (run by hand, after the gate, with no other work on the machine)
 
-The time of a thousand is what a run with them takes longer than the run without them; each run is the fastest of a few. The last
-thousand are to take at most 1.3 times as long as the first.
+The time of a thousand is what a run with them takes longer than the run without them, in seconds of the processor, each run the fastest of
+25, which take turns. The last thousand are to take at most 1.3 times as long as the first.
 """
-import pathlib, subprocess, tempfile, time
+import os, pathlib, subprocess, tempfile
 
 PROGRAM = pathlib.Path(__file__).resolve().parent.parent / "ddrun"
-RUNS = 7
+RUNS = 25
+SIZES = range(0, 8_001, 1_000)
 TABLE = "CREATE TABLE t{0} (id INT PRIMARY KEY, name VARCHAR(20) DEFAULT 'x', n BIGINT NOT NULL, KEY n (n));\nSHOW CREATE TABLE t{0};\n"
 
 
@@ -17,24 +18,34 @@ def script(tables):
     return "session a\nCREATE DATABASE d;\nUSE d;\n" + "".join(TABLE.format(number) for number in range(tables))
 
 
-def run(tables):
-    with tempfile.NamedTemporaryFile() as source:
-        source.write(script(tables).encode())
-        source.flush()
-        with open(source.name) as given:
-            begun = time.perf_counter()
-            told = subprocess.run([PROGRAM, "run"], stdin=given, stdout=subprocess.PIPE, check=True)
-            taken = time.perf_counter() - begun
-    lines = told.stdout.decode().splitlines()
-    assert lines.count("OK") == tables + 2 and lines.count("Table\tCreate Table") == tables
-    return taken
+def seconds(program, source):
+    with open(source) as given:
+        child = subprocess.Popen([program, "run"], stdin=given, stdout=subprocess.DEVNULL)
+        _, status, used = os.wait4(child.pid, 0)
+    assert status == 0
+    return used.ru_utime + used.ru_stime
+
+
+def check(source, tables):
+    """All tables are made and shown."""
+    with open(source) as given:
+        told = subprocess.run([PROGRAM, "run"], stdin=given, stdout=subprocess.PIPE, check=True).stdout.decode().splitlines()
+    assert told.count("OK") == tables + 2 and told.count("Table\tCreate Table") == tables
 
 
 def main():
-    run(0)
-    best = {tables: min(run(tables) for _ in range(RUNS)) for tables in [0, 1000, 7000, 8000]}
-    first, last = best[1000] - best[0], best[8000] - best[7000]
-    print(f"{best[8000]:.3f} s for 8,000; the first 1,000 {first:.3f} s, the last 1,000 {last:.3f} s: {last / first:.2f} times")
+    with tempfile.TemporaryDirectory() as folder:
+        sources = {tables: pathlib.Path(folder) / str(tables) for tables in SIZES}
+        for tables, source in sources.items():
+            source.write_text(script(tables))
+        check(sources[8_000], 8_000)
+        built = PROGRAM.parent / "crates" / "ddrun" / "out" / "ddrun"
+        best = dict.fromkeys(sources, float("inf"))
+        for _ in range(RUNS):
+            for tables, source in sources.items():
+                best[tables] = min(best[tables], seconds(built, source))
+    thousands = [best[tables] - best[tables - 1_000] for tables in SIZES[1:]]
+    print("each thousand:", *[f"{it:.4f}" for it in thousands], f"s; the last to the first: {thousands[-1] / thousands[0]:.2f} times")
 
 
 if __name__ == "__main__":
