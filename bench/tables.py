@@ -4,12 +4,12 @@
 usage: bench/tables.py        (run by hand, after the gate, with no other work on the machine)
 
 The time of a thousand is what a run with them takes longer than the run without them, in seconds of the processor, each run the fastest of
-25, which take turns. The last thousand are to take at most 1.3 times as long as the first.
+100, which take turns. The last thousand are to take at most 1.3 times as long as the first.
 """
 import os, pathlib, subprocess, tempfile
 
 PROGRAM = pathlib.Path(__file__).resolve().parent.parent / "ddrun"
-RUNS = 25
+RUNS = 100
 SIZES = range(0, 8_001, 1_000)
 TABLE = "CREATE TABLE t{0} (id INT PRIMARY KEY, name VARCHAR(20) DEFAULT 'x', n BIGINT NOT NULL, KEY n (n));\nSHOW CREATE TABLE t{0};\n"
 
