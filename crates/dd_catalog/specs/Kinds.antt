@@ -2,11 +2,11 @@
 use Rattle.std.specs.Prelude.{ℕ, Bool, true, false, ◌&&◌, ◌||◌, ◌==◌, not, if◌then◌else◌, List, ◌∷◌, Option, Some, None}
 use Rattle.std.specs.List.{find}
 use Rattle.dd_names.specs.Names.{same}
-use Rattle.dd_objects.specs.declared.choices.IntSize.TheVariants as sizes
-use Rattle.dd_objects.specs.declared.choices.ColumnType.{ColumnType}
-use Rattle.dd_objects.specs.declared.choices.ColumnType.TheVariants as types
-use Rattle.dd_objects.specs.declared.choices.FkRule.{FkRule}
-use Rattle.dd_objects.specs.declared.choices.FkRule.TheVariants as rules
+use Rattle.sql_types.specs.declared.choices.IntSize.TheVariants as sizes
+use Rattle.sql_types.specs.declared.choices.ColumnType.{ColumnType}
+use Rattle.sql_types.specs.declared.choices.ColumnType.TheVariants as types
+use Rattle.sql_types.specs.declared.choices.FkRule.{FkRule}
+use Rattle.sql_types.specs.declared.choices.FkRule.TheVariants as rules
 use Rattle.dd_definitions.specs.declared.columns.ColumnDef.{ColumnDef}
 use Rattle.dd_definitions.specs.declared.foreign_keys.ForeignKeyDef.{ForeignKeyDef}
 use Rattle.dd_definitions.specs.Defaults.{bits}

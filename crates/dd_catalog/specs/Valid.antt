@@ -3,11 +3,13 @@ use Rattle.std.specs.Prelude.{◌≡◌, ℕ, ◌≤◌, Bool, true, false, ◌&
 use Rattle.std.specs.List.{list_all}
 use Rattle.std.specs.Option.{is_none}
 use Rattle.std.specs.FinMap as finite_map
+use Rattle.dd_names.specs.Names.{is_name}
 use Rattle.dd_names.specs.Reserved.{is_system_schema}
 use Rattle.dd_names.specs.declared.object_name.ObjName.{ObjName}
 use Rattle.dd_definitions.specs.declared.foreign_keys.ForeignKeyDef.{ForeignKeyDef}
 use Rattle.dd_definitions.specs.declared.parts.TableParts.{TableParts}
 use Rattle.dd_definitions.specs.ForeignKeys.{has_index_on}
+use Rattle.dd_definitions.specs.Named.{has_names, view_has_names}
 use Rattle.dd_definitions.specs.Views.{is_view_formed}
 use Rattle.dd_definitions.specs.WellFormed.{is_well_formed}
 use Rattle.dd_catalog.specs.Kinds.{first_odd_pair, sets_null, first_not_null}
@@ -17,6 +19,10 @@ use Rattle.dd_catalog.specs.Catalog.{Catalog, Placed, Table, View, has_constrain
 abbrev pub own_name : Placed → ObjName
 own_name (Table space parts) = parts.name
 own_name (View parts) = parts.name
+
+abbrev pub is_placed_named : Placed → Bool
+is_placed_named (Table space parts) = has_names parts
+is_placed_named (View parts) = view_has_names parts
 
 abbrev pub is_placed_formed : Placed → Bool
 is_placed_formed (Table space parts) = is_well_formed parts
@@ -45,6 +51,9 @@ pub record Has (cat : Catalog) (name : ObjName) (placed : Placed) : Type 0 where
 pub record IsValid (cat : Catalog) : Type 0 where
   -- no schema has, in any case, the name of one that the server has for itself
   pub own_schemas : (name : List ℕ) → finite_map.contains_key cat.schemas name ≡ true → is_system_schema name ≡ false
+  -- each name is one: of schemas, objects, columns, indexes, constraints, parents and the parts of views
+  pub schemas_named : (name : List ℕ) → finite_map.contains_key cat.schemas name ≡ true → is_name name ≡ true
+  pub named : (name : ObjName) (placed : Placed) → Has cat name placed → is_placed_named placed ≡ true
   pub schemas_there : (name : ObjName) (placed : Placed) → Has cat name placed → finite_map.contains_key cat.schemas name.schema ≡ true
   pub names_carried : (name : ObjName) (placed : Placed) → Has cat name placed → own_name placed ≡ name
   pub formed : (name : ObjName) (placed : Placed) → Has cat name placed → is_placed_formed placed ≡ true

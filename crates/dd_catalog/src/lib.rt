@@ -5,10 +5,8 @@ mod laws;
 mod lookup;
 mod object;
 mod stop;
-#[cfg(test)]
-mod tests;
 
-pub use laws::walk_laws;
+pub use laws::{objects_have_own_paths, walk_laws};
 pub use lookup::{Known, Lookup, look_at};
 pub use object::Object;
 pub use stop::Stop;

@@ -1,4 +1,4 @@
-ghost use Rattle.std.specs.Prelude.{Option};
+ghost use Rattle.std.specs.Prelude.{◌≡◌, IfOk, Option, Some};
 ghost use Rattle.dd_names.specs.declared.object_name.ObjectKey.{ObjectKey as Key};
 ghost use Rattle.dd_catalog.specs.declared.object.Object.{Object as Found};
 ghost use Rattle.dd_catalog.specs.Looked.{Tells};
@@ -30,7 +30,8 @@ pub trait Lookup {
 
 /// What stands at a key, or the need of it where it isn't known.
 pub fn look_at<'a, L: Lookup>(look: &'a L, key: &ObjectKey) -> Result<&'a Object, Stop>
-    ensures { Follows (λ object. sight object.now) result (run (sights (L.known look.now)) (look_at key.now)) }
+    ensures seen { Follows (λ object. sight object.now) result (run (sights (L.known look.now)) (look_at key.now)) }
+    ensures known { IfOk result (λ object. L.known look.now key.now ≡ Some object.now) }
 {
     match look.look(key) {
         Known::Here(object) => Ok(object),

@@ -3,7 +3,7 @@ use dd_names::{List, Name, ObjName, TryCopy};
 use std::alloc::AllocError;
 
 /// What stands at a key of the dictionary. An id that isn't given yet is 0.
-#[derive(Debug, Drop)]
+#[derive(Drop)]
 pub enum Object {
     Schema {
         id: u32,

@@ -3,7 +3,7 @@ use dd_names::ObjectKey;
 use std::alloc::{AllocError, AllocFailed};
 
 /// Why a check came to no answer.
-#[derive(Debug, Drop)]
+#[derive(Drop)]
 pub enum Stop {
     /// The statement is refused.
     Refused(SqlError),

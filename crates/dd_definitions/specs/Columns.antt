@@ -3,8 +3,8 @@ use Rattle.std.specs.Prelude.{ℕ, Bool, true, false, ◌&&◌, nat_le, List, le
 use Rattle.std.specs.List.{list_all, list_any, count_by}
 use Rattle.std.specs.Str.{bytes_eq}
 use Rattle.dd_names.specs.Names.{same}
-use Rattle.dd_objects.specs.declared.choices.ColumnType.{ColumnType}
-use Rattle.dd_objects.specs.declared.choices.ColumnType.TheVariants as kinds
+use Rattle.sql_types.specs.declared.choices.ColumnType.{ColumnType}
+use Rattle.sql_types.specs.declared.choices.ColumnType.TheVariants as kinds
 use Rattle.dd_definitions.specs.declared.columns.ColumnDef.{ColumnDef}
 use Rattle.dd_definitions.specs.Defaults.{is_fitting_default}
 use Rattle.dd_definitions.specs.Distinct.{are_distinct}

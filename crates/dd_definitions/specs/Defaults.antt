@@ -2,10 +2,10 @@
 use Rattle.std.specs.Prelude.{ℕ, ◌+◌, ◌-◌, ◌*◌, ◌^◌, ◌==◌, Bool, true, false, ◌&&◌, ◌||◌, not, nat_le, List, [], ◌∷◌, length, Option, Some, None, if◌then◌else◌}
 use Rattle.std.specs.List.{list_all, count_by}
 use Rattle.std.specs.Char.{is_ascii_digit}
-use Rattle.dd_objects.specs.declared.choices.IntSize.{IntSize}
-use Rattle.dd_objects.specs.declared.choices.IntSize.TheVariants as sizes
-use Rattle.dd_objects.specs.declared.choices.ColumnType.{ColumnType}
-use Rattle.dd_objects.specs.declared.choices.ColumnType.TheVariants as kinds
+use Rattle.sql_types.specs.declared.choices.IntSize.{IntSize}
+use Rattle.sql_types.specs.declared.choices.IntSize.TheVariants as sizes
+use Rattle.sql_types.specs.declared.choices.ColumnType.{ColumnType}
+use Rattle.sql_types.specs.declared.choices.ColumnType.TheVariants as kinds
 
 -- how many bits an integer of a size has
 abbrev pub bits : IntSize → ℕ

@@ -4,10 +4,10 @@ use Rattle.std.specs.List.{list_all, list_any, count_by}
 use Rattle.std.specs.Option.{is_none}
 use Rattle.std.specs.Str.{bytes_eq}
 use Rattle.dd_names.specs.Names.{same}
-use Rattle.dd_objects.specs.declared.choices.IndexClass.{IndexClass}
-use Rattle.dd_objects.specs.declared.choices.IndexClass.TheVariants as classes
-use Rattle.dd_objects.specs.declared.choices.ColumnType.{ColumnType}
-use Rattle.dd_objects.specs.declared.choices.ColumnType.TheVariants as kinds
+use Rattle.sql_types.specs.declared.choices.IndexClass.{IndexClass}
+use Rattle.sql_types.specs.declared.choices.IndexClass.TheVariants as classes
+use Rattle.sql_types.specs.declared.choices.ColumnType.{ColumnType}
+use Rattle.sql_types.specs.declared.choices.ColumnType.TheVariants as kinds
 use Rattle.dd_definitions.specs.declared.columns.ColumnDef.{ColumnDef}
 use Rattle.dd_definitions.specs.declared.indexes.IndexDef.{IndexDef}
 use Rattle.dd_definitions.specs.Columns.{is_nullable, are_key_columns}

@@ -4,4 +4,5 @@ pub mod Distinct
 pub mod ForeignKeys
 pub mod Indexes
 pub mod Views
+pub mod Named
 pub mod WellFormed

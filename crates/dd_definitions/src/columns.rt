@@ -4,12 +4,12 @@ ghost use Rattle.dd_definitions.specs.Columns.{is_same_column, are_columns_named
 
 use crate::defaults::is_fitting_default;
 use crate::distinct::{Distinct, are_distinct};
-use dd_names::{List, Name, Text, TryCopy};
-use dd_objects::ColumnType;
+use dd_names::{List, Name, Text, TryCopy, both};
+use sql_types::ColumnType;
 use std::alloc::AllocError;
 
 /// A column of a table (MySQL 8.0 Reference Manual, 13.1.20).
-#[derive(Debug, Drop)]
+#[derive(Drop)]
 pub struct ColumnDef {
     pub name: Name,
     pub kind: ColumnType,
@@ -23,13 +23,16 @@ pub struct ColumnDef {
 
 impl TryCopy for ColumnDef {
     fn copy(&self) -> Result<ColumnDef, AllocError> {
-        Ok(ColumnDef {
-            name: self.name.copy()?,
-            kind: self.kind,
-            nullable: self.nullable,
-            default: self.default.copy()?,
-            auto: self.auto,
-        })
+        match both(self.name.copy(), self.default.copy()) {
+            Ok((name, default)) => Ok(ColumnDef {
+                name,
+                kind: self.kind,
+                nullable: self.nullable,
+                default,
+                auto: self.auto,
+            }),
+            Err(error) => Err(error),
+        }
     }
 }
 

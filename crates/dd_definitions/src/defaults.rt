@@ -1,10 +1,9 @@
 ghost use Rattle.std.specs.Prelude.{◌≡◌, ◌<◌, ◌^◌, ◌==◌, nat_le};
-ghost use Rattle.std.specs.List.{list_all, count_by};
-ghost use Rattle.std.specs.Char.{is_ascii_digit};
+ghost use Rattle.std.specs.List.{count_by};
 ghost use Rattle.dd_definitions.specs.Defaults.{height, depth, value_behind, are_digits, begins_with_zero, is_positive, is_zero, is_integer_text, begins_character, is_short_text, fits, is_fitting_default};
 
-use dd_names::Text;
-use dd_objects::{ColumnType, IntSize};
+use dd_names::{Text, are_digits};
+use sql_types::{ColumnType, IntSize};
 
 /// Whether a default, if there is one, is kept as it stands by a column of the type (MySQL 8.0 Reference Manual, 11.1 and
 /// 11.6).
@@ -37,7 +36,8 @@ fn fits(kind: ColumnType, text: &[u8]) -> bool
     }
 }
 
-fn height(size: IntSize, unsigned: bool) -> u64
+/// The greatest number of an integer type (MySQL 8.0 Reference Manual, 11.1.2).
+pub fn height(size: IntSize, unsigned: bool) -> u64
     ensures { result ≡ height size unsigned }
 {
     match (size, unsigned) {
@@ -54,7 +54,8 @@ fn height(size: IntSize, unsigned: bool) -> u64
     }
 }
 
-fn depth(size: IntSize, unsigned: bool) -> u64
+/// How far the least number of an integer type is below 0 (MySQL 8.0 Reference Manual, 11.1.2).
+pub fn depth(size: IntSize, unsigned: bool) -> u64
     ensures { result ≡ depth size unsigned }
 {
     match (size, unsigned) {
@@ -88,22 +89,17 @@ fn is_zero(text: &[u8]) -> bool
 fn is_positive(most: u64, digits: &[u8]) -> bool
     ensures { result ≡ is_positive most digits.now }
 {
-    are_digits(digits) && !begins_with_zero(digits) && is_at_most(most, digits)
+    is_number(digits) && !begins_with_zero(digits) && is_at_most(most, digits)
 }
 
-fn are_digits(text: &[u8]) -> bool
+fn is_number(text: &[u8]) -> bool
     ensures { result ≡ are_digits text.now }
 {
-    1 <= text.len() && has_digits_alone(text)
+    1 <= text.len() && are_digits(text)
 }
 
-fn has_digits_alone(text: &[u8]) -> bool
-    ensures { result ≡ list_all is_ascii_digit text.now }
-{
-    text.iter().all(|c| c.is_ascii_digit())
-}
-
-fn begins_with_zero(text: &[u8]) -> bool
+/// Whether the first byte is `0`.
+pub fn begins_with_zero(text: &[u8]) -> bool
     ensures { result ≡ begins_with_zero text.now }
 {
     match text {
@@ -112,7 +108,8 @@ fn begins_with_zero(text: &[u8]) -> bool
     }
 }
 
-fn is_at_most(most: u64, digits: &[u8]) -> bool
+/// Whether the number that decimal digits stand for is at most `most`.
+pub fn is_at_most(most: u64, digits: &[u8]) -> bool
     ensures { result ≡ nat_le (value_behind 0 digits.now) most }
 {
     let most = u128::from(most);
@@ -126,8 +123,9 @@ fn is_at_most(most: u64, digits: &[u8]) -> bool
     true
 }
 
+/// Whether UTF-8 text has at most so many characters.
 #[tactic(auto, unfolding(crate::specs::Defaults::is_short_text))]
-fn is_short_text(most: u16, text: &[u8]) -> bool
+pub fn is_short_text(most: u16, text: &[u8]) -> bool
     ensures { result ≡ is_short_text most text.now }
 {
     character_count(text) <= usize::from(most)

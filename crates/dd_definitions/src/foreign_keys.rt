@@ -7,13 +7,13 @@ ghost use Rattle.dd_definitions.specs.ForeignKeys.{is_same_constraint, has_index
 use crate::columns::{ColumnDef, are_key_columns};
 use crate::distinct::{Distinct, are_distinct};
 use crate::indexes::IndexDef;
-use dd_names::{List, Name, ObjName, TryCopy};
-use dd_objects::FkRule;
+use dd_names::{List, Name, ObjName, TryCopy, both};
+use sql_types::FkRule;
 use std::alloc::AllocError;
 use std::cmp::Ordering;
 
 /// A foreign key of a table (MySQL 8.0 Reference Manual, 13.1.20.5).
-#[derive(Debug, Drop)]
+#[derive(Drop)]
 pub struct ForeignKeyDef {
     /// The constraint's name.
     pub name: Name,
@@ -27,14 +27,19 @@ pub struct ForeignKeyDef {
 
 impl TryCopy for ForeignKeyDef {
     fn copy(&self) -> Result<ForeignKeyDef, AllocError> {
-        Ok(ForeignKeyDef {
-            name: self.name.copy()?,
-            columns: self.columns.copy()?,
-            parent: self.parent.copy()?,
-            parent_columns: self.parent_columns.copy()?,
-            on_delete: self.on_delete,
-            on_update: self.on_update,
-        })
+        let child = both(self.name.copy(), self.columns.copy());
+        let parent = both(self.parent.copy(), self.parent_columns.copy());
+        match both(child, parent) {
+            Ok(((name, columns), (parent, parent_columns))) => Ok(ForeignKeyDef {
+                name,
+                columns,
+                parent,
+                parent_columns,
+                on_delete: self.on_delete,
+                on_update: self.on_update,
+            }),
+            Err(error) => Err(error),
+        }
     }
 }
 

@@ -5,12 +5,12 @@ ghost use Rattle.dd_definitions.specs.Indexes.{is_primary, is_secondary, primary
 
 use crate::columns::{ColumnDef, are_key_columns, is_nullable};
 use crate::distinct::{Distinct, are_distinct};
-use dd_names::{List, Name, TryCopy};
-use dd_objects::{ColumnType, IndexClass};
+use dd_names::{List, Name, TryCopy, both};
+use sql_types::{ColumnType, IndexClass};
 use std::alloc::AllocError;
 
 /// An index of a table (MySQL 8.0 Reference Manual, 13.1.20).
-#[derive(Debug, Drop)]
+#[derive(Drop)]
 pub struct IndexDef {
     pub name: Name,
     pub class: IndexClass,
@@ -20,11 +20,14 @@ pub struct IndexDef {
 
 impl TryCopy for IndexDef {
     fn copy(&self) -> Result<IndexDef, AllocError> {
-        Ok(IndexDef {
-            name: self.name.copy()?,
-            class: self.class,
-            columns: self.columns.copy()?,
-        })
+        match both(self.name.copy(), self.columns.copy()) {
+            Ok((name, columns)) => Ok(IndexDef {
+                name,
+                class: self.class,
+                columns,
+            }),
+            Err(error) => Err(error),
+        }
     }
 }
 
@@ -206,7 +209,8 @@ fn is_auto_formed(indexes: &[IndexDef], column: &ColumnDef) -> bool
             && leads_index(indexes, &column.name))
 }
 
-fn is_integer(kind: ColumnType) -> bool
+/// Whether the type keeps whole numbers, as BOOL does.
+pub fn is_integer(kind: ColumnType) -> bool
     ensures { result ≡ is_integer kind }
 {
     matches!(kind, ColumnType::Int { .. } | ColumnType::Bool)

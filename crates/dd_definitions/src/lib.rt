@@ -12,8 +12,9 @@ mod view;
 mod view_parts;
 
 pub use columns::ColumnDef;
+pub use defaults::{begins_with_zero, depth, height, is_at_most, is_short_text};
 pub use foreign_keys::ForeignKeyDef;
-pub use indexes::IndexDef;
+pub use indexes::{IndexDef, is_integer};
 pub use parts::TableParts;
 pub use table::TableDef;
 pub use view::ViewDef;

@@ -4,11 +4,11 @@ ghost use Rattle.dd_definitions.specs.WellFormed.{is_well_formed};
 use crate::columns::{ColumnDef, are_columns_formed};
 use crate::foreign_keys::{ForeignKeyDef, are_foreign_keys_formed};
 use crate::indexes::{IndexDef, are_autos_formed, are_indexes_formed};
-use dd_names::{List, ObjName, TryCopy};
+use dd_names::{List, ObjName, TryCopy, both};
 use std::alloc::AllocError;
 
 /// The parts of a table, which needn't fit together.
-#[derive(Debug, Drop)]
+#[derive(Drop)]
 pub struct TableParts {
     pub name: ObjName,
     pub columns: List<ColumnDef>,
@@ -18,12 +18,17 @@ pub struct TableParts {
 
 impl TryCopy for TableParts {
     fn copy(&self) -> Result<TableParts, AllocError> {
-        Ok(TableParts {
-            name: self.name.copy()?,
-            columns: self.columns.copy()?,
-            indexes: self.indexes.copy()?,
-            foreign_keys: self.foreign_keys.copy()?,
-        })
+        let front = both(self.name.copy(), self.columns.copy());
+        let back = both(self.indexes.copy(), self.foreign_keys.copy());
+        match both(front, back) {
+            Ok(((name, columns), (indexes, foreign_keys))) => Ok(TableParts {
+                name,
+                columns,
+                indexes,
+                foreign_keys,
+            }),
+            Err(error) => Err(error),
+        }
     }
 }
 

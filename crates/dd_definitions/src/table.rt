@@ -7,7 +7,7 @@ use std::alloc::AllocError;
 use std::marker::Model;
 
 /// A table whose parts fit together. Contracts see its parts.
-#[derive(Debug, Drop)]
+#[derive(Drop)]
 pub struct TableDef {
     parts: TableParts,
 }

@@ -7,7 +7,7 @@ use std::alloc::AllocError;
 use std::marker::Model;
 
 /// A view whose parts fit together. Contracts see its parts.
-#[derive(Debug, Drop)]
+#[derive(Drop)]
 pub struct ViewDef {
     parts: ViewParts,
 }

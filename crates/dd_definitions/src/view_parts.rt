@@ -3,18 +3,18 @@ ghost use Rattle.std.specs.List.{list_all};
 ghost use Rattle.dd_definitions.specs.Views.{is_same_alias, is_same_output, is_of_source, are_sources_formed, are_outputs_formed, is_view_formed};
 
 use crate::distinct::{Distinct, are_distinct};
-use dd_names::{List, Name, ObjName, TryCopy};
+use dd_names::{List, Name, ObjName, TryCopy, both};
 use std::alloc::AllocError;
 
 /// A table or view that a view reads, under a name of its own in the query (MySQL 8.0 Reference Manual, 13.1.23).
-#[derive(Debug, Drop)]
+#[derive(Drop)]
 pub struct ViewSource {
     pub object: ObjName,
     pub alias: Name,
 }
 
 /// A column that a view gives.
-#[derive(Debug, Drop)]
+#[derive(Drop)]
 pub struct ViewColumn {
     /// The place among the sources, from 0, of the one that it is taken from.
     pub source: u32,
@@ -25,7 +25,7 @@ pub struct ViewColumn {
 }
 
 /// The parts of a view, which needn't fit together.
-#[derive(Debug, Drop)]
+#[derive(Drop)]
 pub struct ViewParts {
     pub name: ObjName,
     pub sources: List<ViewSource>,
@@ -34,30 +34,37 @@ pub struct ViewParts {
 
 impl TryCopy for ViewSource {
     fn copy(&self) -> Result<ViewSource, AllocError> {
-        Ok(ViewSource {
-            object: self.object.copy()?,
-            alias: self.alias.copy()?,
-        })
+        match both(self.object.copy(), self.alias.copy()) {
+            Ok((object, alias)) => Ok(ViewSource { object, alias }),
+            Err(error) => Err(error),
+        }
     }
 }
 
 impl TryCopy for ViewColumn {
     fn copy(&self) -> Result<ViewColumn, AllocError> {
-        Ok(ViewColumn {
-            source: self.source,
-            column: self.column.copy()?,
-            output: self.output.copy()?,
-        })
+        match both(self.column.copy(), self.output.copy()) {
+            Ok((column, output)) => Ok(ViewColumn {
+                source: self.source,
+                column,
+                output,
+            }),
+            Err(error) => Err(error),
+        }
     }
 }
 
 impl TryCopy for ViewParts {
     fn copy(&self) -> Result<ViewParts, AllocError> {
-        Ok(ViewParts {
-            name: self.name.copy()?,
-            sources: self.sources.copy()?,
-            outputs: self.outputs.copy()?,
-        })
+        let listed = both(self.sources.copy(), self.outputs.copy());
+        match both(self.name.copy(), listed) {
+            Ok((name, (sources, outputs))) => Ok(ViewParts {
+                name,
+                sources,
+                outputs,
+            }),
+            Err(error) => Err(error),
+        }
     }
 }
 

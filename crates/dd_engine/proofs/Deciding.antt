@@ -1,5 +1,5 @@
 -- Statements decided over a part of a catalog.
-use Rattle.std.specs.Prelude.{◌≡◌, ◌≢◌, ◌<◌, Option, Some, None}
+use Rattle.std.specs.Prelude.{◌≡◌, Option, Some, None, Ok, Err}
 use Rattle.std.specs.Option.{option_map}
 use Rattle.std.proofs.Common.{sym, ◌∙◌, ap, subst, refl}
 use Rattle.dd_names.specs.declared.object_name.ObjectKey.{ObjectKey}
@@ -7,13 +7,15 @@ use Rattle.dd_errors.specs.Errors.{ErrorValue}
 use Rattle.dd_catalog.specs.declared.object.Object.{Object}
 use Rattle.dd_catalog.specs.Catalog.{Catalog, sight_of, all_of}
 use Rattle.dd_catalog.specs.Sights.{Sight, sight}
-use Rattle.dd_catalog.specs.Walks.{Walk, Found, needs, run}
+use Rattle.dd_catalog.specs.declared.stop.Stop.{Stop}
+use Rattle.dd_catalog.specs.declared.stop.Stop.TheVariants.{Refused, Need, Memory}
+use Rattle.dd_catalog.specs.Walks.{Walk, Found, fine, refused, needs, run}
 use Rattle.dd_catalog.specs.WalkLaws.{Extends, IsSettled, needed_unknown, fewer_left}
-use Rattle.ddl_decided.specs.Choices.{Choice}
-use Rattle.ddl_decided.specs.Decided.{found_of}
-use Rattle.ddl_decided.specs.declared.decided.Decided.{Decided}
-use Rattle.ddl_decided.specs.declared.decided.Decided.TheVariants.{Edits, Same, Rows, Refused, Need}
-use Rattle.ddl_plan.proofs.Whole.{settled, known_settles}
+use Rattle.rules_outcome.specs.Choices.{Choice}
+use Rattle.rules_outcome.specs.Decided.{chosen}
+use Rattle.rules_outcome.specs.declared.decided.Decided.{Decided}
+use Rattle.rules_decide.specs.Outcome.{DecidesIf}
+use Rattle.rules_decide.proofs.Whole.{settled, known_settles}
 use Rattle.plain_catalog.specs.declared.part.Part.{Part}
 use Rattle.plain_catalog.specs.Known.{known_in}
 use Rattle.dd_engine.specs.Known.{IsKnown, left_in, seen_in, Turned}
@@ -21,29 +23,39 @@ use Rattle.dd_engine.specs.Known.{IsKnown, left_in, seen_in, Turned}
 some_is : {A : Type 0} {x y : A} → ◌≡◌ {A = Option A} (Some x) (Some y) → x ≡ y
 some_is e = cc
 
--- what is settled over what is known is so over the whole
-pub known_whole : (cat : Catalog) (part : Part) (check : Option (Walk ErrorValue Choice)) (found : Found ErrorValue Choice) → IsKnown cat part → IsSettled found
-    → option_map (run (seen_in part)) check ≡ Some found → option_map (run (all_of cat)) check ≡ Some found
-known_whole cat part None found known settles is = cc
-known_whole cat part (Some check) found known settles is =
-    let same : run (seen_in part) check ≡ found = some_is is in
-    ap Some (known_settles cat (seen_in part) check known (subst IsSettled (sym same) settles) ∙ same)
+-- over what is known the check comes to this answer, which isn't the need of a key: so it does over the whole
+found_whole : (cat : Catalog) (part : Part) (check : Walk ErrorValue Choice) (found : Found ErrorValue Choice) → IsKnown cat part → IsSettled found → run (seen_in part) check ≡ found → run (all_of cat) check ≡ found
+found_whole cat part check found known settles is = known_settles cat (seen_in part) check known (subst IsSettled (sym is) settles) ∙ is
+
+-- what is decided over what is known is decided so over the whole
+pub decided_whole : (cat : Catalog) (part : Part) (check : Option (Walk ErrorValue Choice)) (d : Decided) → IsKnown cat part
+    → DecidesIf (Ok d) (option_map (run (seen_in part)) check) → DecidesIf (Ok d) (option_map (run (all_of cat)) check)
+decided_whole cat part None d known is = absurd is
+decided_whole cat part (Some check) d known is = found_whole cat part check (fine (chosen d)) known tt is
+
+-- what is refused over what is known is refused so over the whole
+pub refused_whole : (cat : Catalog) (part : Part) (check : Option (Walk ErrorValue Choice)) (error : ErrorValue) → IsKnown cat part
+    → DecidesIf (Err (Refused error)) (option_map (run (seen_in part)) check) → DecidesIf (Err (Refused error)) (option_map (run (all_of cat)) check)
+refused_whole cat part None error known is = absurd is
+refused_whole cat part (Some check) error known is = found_whole cat part check (refused error) known tt is
+
+-- want of memory may come at any time
+pub memory_whole : (cat : Catalog) (part : Part) (check : Option (Walk ErrorValue Choice)) (key : ObjectKey)
+    → DecidesIf (Err (Need key)) (option_map (run (seen_in part)) check) → DecidesIf (Err Memory) (option_map (run (all_of cat)) check)
+memory_whole cat part None key is = absurd is
+memory_whole cat part (Some check) key is = tt
 
 -- nothing is known at the key that is needed
-pub needed_none : (part : Part) (check : Option (Walk ErrorValue Choice)) (key : ObjectKey) → option_map (run (seen_in part)) check ≡ Some (needs key) → seen_in part key ≡ None
-needed_none part None key is = cc
-needed_none part (Some check) key is = needed_unknown (seen_in part) check key (some_is is)
+needed_none : (part : Part) (check : Walk ErrorValue Choice) (key : ObjectKey) → run (seen_in part) check ≡ needs key → seen_in part key ≡ None
+needed_none part check key is = needed_unknown (seen_in part) check key is
 
 -- it is known then, and fewer are left
-pub fewer_in : (cat : Catalog) (old new : Part) (check : Option (Walk ErrorValue Choice)) (key : ObjectKey) → IsKnown cat old → Extends (seen_in old) (seen_in new)
-    → seen_in new key ≡ Some (sight_of cat key) → option_map (run (seen_in old)) check ≡ Some (needs key) → left_in cat check new < left_in cat check old
-fewer_in cat old new None key known more here is = cc
-fewer_in cat old new (Some check) key known more here is = fewer_left (sight_of cat) (seen_in old) (seen_in new) check key known more here (some_is is)
-
 pub turned_more : (cat : Catalog) (old new : Part) (check : Option (Walk ErrorValue Choice)) (key : ObjectKey) → IsKnown cat old
-    → option_map (run (seen_in old)) check ≡ Some (needs key) → seen_in new key ≡ Some (sight_of cat key)
-    → (seen_in old key ≡ None → Extends (seen_in old) (seen_in new)) → (IsKnown cat old → IsKnown cat new) → Turned cat check old new None
-turned_more cat old new check key known is here more still = (still known, fewer_in cat old new check key known (more (needed_none old check key is)) here is)
+    → DecidesIf (Err (Need key)) (option_map (run (seen_in old)) check) → seen_in new key ≡ Some (sight_of cat key)
+    → (seen_in old key ≡ None → Extends (seen_in old) (seen_in new)) → (IsKnown cat old → IsKnown cat new) → Turned cat check old new (Ok None)
+turned_more cat old new None key known is here more still = absurd is
+turned_more cat old new (Some check) key known is here more still =
+    (still known, fewer_left (sight_of cat) (seen_in old) (seen_in new) check key known (more (needed_none old check key is)) here is)
 
 -- nothing is seen where nothing is known
 pub none_seen : (part : Part) (key : ObjectKey) → seen_in part key ≡ None → known_in part key ≡ None
@@ -60,15 +72,20 @@ nothing_known cat part none = record { stands = λ key seen is. absurd (not_some
     not_some : (seen : Sight) → ◌≡◌ {A = Option Sight} None (Some seen) → ⊥
     not_some seen e = cc
 
+-- what is decided over a whole catalog is what the check comes to
+pub decided_found : (found : Option (Found ErrorValue Choice)) (d : Decided) → DecidesIf (Ok d) found → found ≡ Some (fine (chosen d))
+decided_found None d is = absurd is
+decided_found (Some found) d is = ap (λ (f : Found ErrorValue Choice). Some f) is
+
+pub refused_found : (found : Option (Found ErrorValue Choice)) (error : ErrorValue) → DecidesIf (Err (Refused error)) found → found ≡ Some (refused error)
+refused_found None error is = absurd is
+refused_found (Some found) error is = ap (λ (f : Found ErrorValue Choice). Some f) is
+
+pub never_needs : (cat : Catalog) (check : Option (Walk ErrorValue Choice)) (key : ObjectKey) → DecidesIf (Err (Need key)) (option_map (run (all_of cat)) check) → ⊥
+never_needs cat None key is = is
+never_needs cat (Some check) key is = subst IsSettled is (settled cat check)
+
 -- over a whole catalog no key is needed
 pub whole_settled : (cat : Catalog) (check : Option (Walk ErrorValue Choice)) (found : Found ErrorValue Choice) → option_map (run (all_of cat)) check ≡ Some found → IsSettled found
 whole_settled cat None found is = cc
 whole_settled cat (Some check) found is = subst IsSettled (some_is is) (settled cat check)
-
--- what is no need is settled
-pub no_need : (d : Decided) → ((key : ObjectKey) → d ≢ Need key) → IsSettled (found_of d)
-no_need (Edits edits) is_no = tt
-no_need Same is_no = tt
-no_need (Rows listing) is_no = tt
-no_need (Refused error) is_no = tt
-no_need (Need key) is_no = absurd (is_no key refl)

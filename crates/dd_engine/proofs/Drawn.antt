@@ -2,16 +2,16 @@
 use Rattle.std.proofs.Common.{◌≡◌, ℕ, ◌<◌, ◌≤◌, ◌+◌, Bool, true, false, List, [], ◌∷◌, length, Option, Some, None, arith}
 use Rattle.std.specs.List.{AllByRecursion}
 use Rattle.dd_errors.specs.Errors.{ErrorValue}
-use Rattle.ddl_words.specs.declared.session.SessionState.{SessionState}
+use Rattle.sql_ast.specs.declared.session.SessionState.{SessionState}
 use Rattle.dd_catalog.specs.Catalog.{Catalog}
 use Rattle.dd_catalog.specs.Walks.{Found, fine, refused, needs}
-use Rattle.ddl_decided.specs.Choices.{Choice, Same, Changes, Lists}
-use Rattle.ddl_plan.specs.Outcome.{outcome_over}
+use Rattle.rules_outcome.specs.Choices.{Choice, Same, Changes, Lists, draws}
+use Rattle.rules_decide.specs.Outcome.{outcome_over}
 use Rattle.dd_engine.specs.declared.history.Answer.{Answer}
 use Rattle.dd_engine.specs.declared.history.Answer.TheVariants.{Done, Rows, Error, Memory, NoSpaceId}
 use Rattle.dd_engine.specs.declared.history.Entry.{Entry}
 use Rattle.dd_engine.specs.Drawn.{DrawsFrom, HadNumber, IsOutAt, behind}
-use Rattle.dd_engine.specs.History.{Answers, StepByStep, catalog_after, draws, effect, sessions_after}
+use Rattle.dd_engine.specs.History.{Answers, StepByStep, catalog_after, effect, sessions_after}
 
 -- it is said of the greatest number alone
 told_greatest : (found : Option (Found ErrorValue Choice)) (told : ℕ) → Answers found (NoSpaceId told) → told ≡ 4294967295

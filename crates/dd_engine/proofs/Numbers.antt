@@ -4,29 +4,30 @@ use Rattle.std.specs.List.{list_any}
 use Rattle.std.specs.Option.{option_map}
 use Rattle.std.proofs.Common.{sym, subst, refl, arith, inl, inr}
 use Rattle.dd_errors.specs.Errors.{ErrorValue}
-use Rattle.ddl_words.specs.declared.session.SessionState.{SessionState}
-use Rattle.ddl_words.specs.declared.statement.Statement.{Statement}
+use Rattle.sql_ast.specs.declared.session.SessionState.{SessionState}
+use Rattle.sql_ast.specs.declared.statement.Statement.{Statement}
 use Rattle.dd_catalog.specs.Catalog.{Catalog, all_of}
 use Rattle.dd_catalog.specs.Valid.{IsValid}
 use Rattle.dd_catalog.specs.Walks.{Walk, Found, fine, refused, needs, run}
-use Rattle.ddl_decided.specs.Choices.{After, Gone, Schema, FreshTable, KeptTable, View, Change, Choice, Same, Changes, Lists, catalog_behind, makes_space, takes_space}
+use Rattle.rules_outcome.specs.Choices.{After, Gone, NewSchema, FreshTable, KeptTable, NewView, KeptView, Change, Choice, Same, Changes, Lists, catalog_behind, makes_space, takes_space, draws, takes_number}
 use Rattle.rules_valid.specs.Keeps.{HasSpace, MakesOneSpace}
-use Rattle.ddl_plan.specs.Outcome.{outcome}
-use Rattle.ddl_plan.proofs.Kept.{outcome_makes}
+use Rattle.rules_decide.specs.Outcome.{outcome}
+use Rattle.rules_decide.proofs.Kept.{outcome_makes}
 use Rattle.dd_engine.specs.declared.history.Answer.{Answer}
 use Rattle.dd_engine.specs.declared.history.Answer.TheVariants.{Done, Rows, Error, Memory, NoSpaceId}
 use Rattle.dd_engine.specs.Drawn.{behind, spaces_of}
 use Rattle.dd_engine.specs.Engine.{AreBelow}
-use Rattle.dd_engine.specs.History.{TakesSpaces, choice_found, done_of, draws, space_in, takes_number}
+use Rattle.dd_engine.specs.History.{TakesSpaces, choice_found, done_of, space_in}
 
 -- ## Numbers
 
 one_draws : (after : After) (rest more : Bool) → (rest ≡ true → more ≡ true) → (makes_space after || rest) ≡ true → (takes_number after || more) ≡ true
 one_draws Gone rest more go e = go e
-one_draws Schema rest more go e = refl
+one_draws NewSchema rest more go e = refl
 one_draws (FreshTable parts) rest more go e = refl
 one_draws (KeptTable space parts) rest more go e = go e
-one_draws (View parts) rest more go e = go e
+one_draws (NewView parts) rest more go e = refl
+one_draws (KeptView parts) rest more go e = go e
 
 changes_draw : (changes : List Change) → list_any (λ (c : Change). makes_space c.after) changes ≡ true → list_any (λ (c : Change). takes_number c.after) changes ≡ true
 changes_draw [] e = e

@@ -4,15 +4,15 @@ use Rattle.std.specs.List.{list_any}
 use Rattle.std.specs.Option.{option_map}
 use Rattle.std.proofs.Common.{sym, ap, subst, refl}
 use Rattle.dd_errors.specs.Errors.{ErrorValue}
-use Rattle.ddl_words.specs.declared.statement.Statement.{Statement}
+use Rattle.sql_ast.specs.declared.statement.Statement.{Statement}
 use Rattle.dd_catalog.specs.Catalog.{all_of}
 use Rattle.dd_catalog.specs.Walks.{Walk, Found, fine, refused, needs, run}
 use Rattle.dd_catalog.specs.WalkLaws.{IsSettled}
-use Rattle.ddl_decided.specs.Choices.{Change, Choice, Same, Changes, Lists}
-use Rattle.ddl_decided.specs.Decided.{change_of}
-use Rattle.ddl_decided.specs.declared.decided.Edit.{Edit}
-use Rattle.ddl_plan.specs.Outcome.{outcome, outcome_over, is_decided}
-use Rattle.ddl_plan.proofs.Whole.{decided_has_check}
+use Rattle.rules_outcome.specs.Choices.{Change, Choice, Same, Changes, Lists}
+use Rattle.rules_outcome.specs.Decided.{change_of}
+use Rattle.rules_outcome.specs.declared.decided.Edit.{Edit}
+use Rattle.rules_decide.specs.Outcome.{outcome, outcome_over, is_decided}
+use Rattle.rules_decide.proofs.Whole.{decided_has_check}
 use Rattle.dd_engine.specs.declared.history.Answer.{Answer}
 use Rattle.dd_engine.specs.declared.history.Answer.TheVariants.{Memory}
 use Rattle.dd_engine.specs.declared.state.State.{State}

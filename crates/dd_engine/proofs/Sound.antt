@@ -1,25 +1,26 @@
 -- A sound dictionary stays so by one entry more.
-use Rattle.std.proofs.Common.{◌≡◌, ℕ, ◌==◌, ◌<◌, ◌≤◌, true, List, [], ◌∷◌, ◌++◌, length, ap, sym, ◌∙◌, subst, if◌then◌else◌, arith}
+use Rattle.std.proofs.Common.{◌≡◌, ℕ, ◌==◌, ◌<◌, ◌≤◌, true, List, [], ◌∷◌, ◌++◌, length, refl, ap, sym, ◌∙◌, subst, if◌then◌else◌, arith}
 use Rattle.std.proofs.lemmas.Bool.{true≢false}
 use Rattle.std.specs.Prelude.{Option, Some, None, is_some}
 use Rattle.std.specs.FinMap as finite_map
 use Rattle.dd_names.specs.declared.object_name.ObjName.{ObjName}
 use Rattle.dd_errors.specs.Errors.{ErrorValue}
-use Rattle.ddl_words.specs.declared.session.SessionState.{SessionState}
+use Rattle.sql_ast.specs.Names.{says_names}
+use Rattle.sql_ast.specs.declared.session.SessionState.{SessionState}
 use Rattle.dd_catalog.specs.Catalog.{Catalog, Placed, Table, empty_catalog, object_cmp}
 use Rattle.dd_catalog.specs.Valid.{Has, IsValid}
 use Rattle.dd_catalog.specs.Walks.{Found}
-use Rattle.ddl_decided.specs.Choices.{Choice, catalog_behind, session_behind, takes_space}
-use Rattle.ddl_plan.specs.Outcome.{outcome_over}
+use Rattle.rules_outcome.specs.Choices.{Choice, catalog_behind, session_behind, takes_space, draws}
+use Rattle.rules_decide.specs.Outcome.{outcome_over}
 use Rattle.rules_valid.proofs.Readings.{empty_valid}
 use Rattle.dd_engine.specs.declared.history.Entry.{Entry}
 use Rattle.dd_engine.specs.declared.state.State.{State}
 use Rattle.dd_engine.specs.Catalog.{new_session}
 use Rattle.dd_engine.specs.Drawn.{DrawsNext, behind, next_left, spaces_of}
-use Rattle.dd_engine.specs.Engine.{Answered, AreBelow, IsPlain, IsSound, Stands, Steps}
-use Rattle.dd_engine.specs.History.{Answers, choice_found, choice_in, done_of, draws, TakesSpaces, space_in, effect, Step, LegalHistory, after_all, sessions_left}
+use Rattle.dd_engine.specs.Engine.{Answered, AreBelow, IsPlain, IsPlainHistory, IsSound, Stands, Steps}
+use Rattle.dd_engine.specs.History.{Answers, choice_found, choice_in, done_of, TakesSpaces, space_in, effect, Step, LegalHistory, after_all, sessions_left}
 use Rattle.dd_engine.proofs.Numbers.{space_draws, not_less, one_more, in_range, taken, space_taken, spaces_below}
-use Rattle.dd_engine.proofs.Steps.{StepByStep-push, catalog_left-push, sessions_left-push, next_left-push, ArePlainFrom-push, DrawsFrom-push}
+use Rattle.dd_engine.proofs.Steps.{StepByStep-push, catalog_left-push, sessions_left-push, next_left-push, ArePlainFrom-push, AllSayNames-push, DrawsFrom-push}
 use Rattle.dd_engine.proofs.Valid.{steps_keep}
 
 -- what is done
@@ -29,6 +30,7 @@ done_by found e = done_of (choice_found found) e.answer
 -- what one more entry is
 pub record IsNext (old : State) (history : List Entry) (e : Entry) (new : State) : Type 0 where
   pub plain : IsPlain (length history) e
+  pub named : says_names e.statement ≡ true
   pub answered : Answered old e.statement e.answer new e.spaces
 
 -- the effect of the entry behind the history
@@ -64,12 +66,12 @@ is_step old new history e stands n =
       spaces = subst (λ (choice : Choice). TakesSpaces (after_all empty_catalog history) (takes_space choice) e.spaces) (sym is.does) (numbers_are old new history e stands n);
     }
 
-old_valid : (history : List Entry) (old : State) → LegalHistory empty_catalog history → Stands history old → IsValid old.catalog
-old_valid history old legal stands = subst IsValid stands.catalog (steps_keep empty_catalog new_session history empty_valid legal)
+old_valid : (history : List Entry) (old : State) → IsPlainHistory history → Stands history old → IsValid old.catalog
+old_valid history old said stands = subst IsValid stands.catalog (steps_keep empty_catalog new_session history empty_valid (λ s. refl) said.named said.legal)
 
 -- each table's space is below the next number
-are_below : (old new : State) (history : List Entry) (e : Entry) → LegalHistory empty_catalog history → Stands history old → IsNext old history e new → AreBelow new.catalog new.next
-are_below old new history e legal stands n =
+are_below : (old new : State) (history : List Entry) (e : Entry) → IsPlainHistory history → Stands history old → IsNext old history e new → AreBelow new.catalog new.next
+are_below old new history e said stands n =
     let leaves = n.answered.settles.leaves in
     let choice : Choice = done_by n.answered.found e in
     let more : old.next ≤ new.next = subst (λ m. old.next ≤ m) (sym leaves.next) (not_less (draws choice) old.next) in
@@ -77,10 +79,10 @@ are_below old new history e legal stands n =
     let room : takes_space choice ≡ true → space_in e.spaces < new.next =
     subst (λ (spaces : List ℕ). takes_space choice ≡ true → space_in spaces < new.next) (sym leaves.taken) (space_taken (takes_space choice) old.next new.next drawn) in
     subst (λ (cat : Catalog). AreBelow cat new.next) leaves.catalog
-    (spaces_below old.catalog old.session e.statement n.answered.found e.answer (space_in e.spaces) old.next new.next (old_valid history old legal stands) n.answered.is stands.spaces more room)
+    (spaces_below old.catalog old.session e.statement n.answered.found e.answer (space_in e.spaces) old.next new.next (old_valid history old said stands) n.answered.is stands.spaces more room)
 
-now_stands : (old new : State) (history : List Entry) (e : Entry) → LegalHistory empty_catalog history → Stands history old → IsNext old history e new → Stands (history ++ e ∷ []) new
-now_stands old new history e legal stands n =
+now_stands : (old new : State) (history : List Entry) (e : Entry) → IsPlainHistory history → Stands history old → IsNext old history e new → Stands (history ++ e ∷ []) new
+now_stands old new history e said stands n =
     let cat = after_all empty_catalog history in
     let sessions = sessions_left empty_catalog new_session history in
     let leaves = n.answered.settles.leaves in
@@ -95,7 +97,7 @@ now_stands old new history e legal stands n =
       next = next_left-push empty_catalog new_session 1 history e ∙ (λ i. behind (draws (is.does i)) (stands.next i)) ∙ sym leaves.next;
       least = omega (arith, stands.least, more);
       greatest = subst (λ m. m ≤ 4294967295) (sym leaves.next) (in_range (draws choice) old.next leaves.room stands.greatest);
-      spaces = are_below old new history e legal stands n;
+      spaces = are_below old new history e said stands n;
     }
 
 -- the entry takes the next number
@@ -113,16 +115,17 @@ sound_push old new history e sound n = record {
   said = record {
     legal = StepByStep-push empty_catalog new_session history e sound.said.legal (is_step old new history e sound.stands n);
     plain = ArePlainFrom-push 0 history e sound.said.plain (subst (λ k. IsPlain k e) (omega arith) n.plain);
+    named = AllSayNames-push history e sound.said.named n.named;
     numbers = DrawsFrom-push empty_catalog new_session 1 history e sound.said.numbers (draws_next old new history e sound.stands n);
   };
-  stands = now_stands old new history e sound.said.legal sound.stands n;
+  stands = now_stands old new history e sound.said sound.stands n;
 }
 
 -- a statement is answered only over a state that is kept
-pub sound_step : (old new : Option State) (history : List Entry) (e : Entry) → IsSound old history → IsPlain (length history) e → Steps old e.statement e.answer new e.spaces → IsSound new (history ++ e ∷ [])
-sound_step None new history e sound plain steps = absurd steps
-sound_step (Some old) None history e sound plain steps = absurd steps
-sound_step (Some old) (Some new) history e sound plain steps = sound_push old new history e sound (record { plain = plain; answered = steps })
+pub sound_step : (old new : Option State) (history : List Entry) (e : Entry) → IsSound old history → IsPlain (length history) e → says_names e.statement ≡ true → Steps old e.statement e.answer new e.spaces → IsSound new (history ++ e ∷ [])
+sound_step None new history e sound plain named steps = absurd steps
+sound_step (Some old) None history e sound plain named steps = absurd steps
+sound_step (Some old) (Some new) history e sound plain named steps = sound_push old new history e sound (record { plain = plain; named = named; answered = steps })
 
 nothing_there : (name : ObjName) (placed : Placed) → Has empty_catalog name placed → ⊥
 nothing_there name placed has = true≢false (ap is_some (sym has.is) ∙ ap is_some (finite_map.get-empty object_cmp name))
@@ -130,7 +133,7 @@ nothing_there name placed has = true≢false (ap is_some (sym has.is) ∙ ap is_
 -- what a dictionary begins with
 pub begins : (state : State) → state.catalog ≡ empty_catalog → state.session ≡ new_session 0 → state.next ≡ 1 → IsSound (Some state) []
 begins state catalog session next = record {
-  said = record { legal = tt; plain = tt; numbers = tt };
+  said = record { legal = tt; plain = tt; named = tt; numbers = tt };
   stands = record {
     catalog = sym catalog;
     session = sym session;

@@ -1,9 +1,11 @@
 -- A history that goes on by one entry.
-use Rattle.std.proofs.Common.{◌≡◌, ℕ, ◌+◌, List, [], ◌∷◌, ◌++◌, length, refl, subst, arith}
+use Rattle.std.proofs.Common.{◌≡◌, ℕ, ◌+◌, true, List, [], ◌∷◌, ◌++◌, length, refl, subst, arith}
 use Rattle.dd_engine.specs.declared.history.Entry.{Entry}
-use Rattle.ddl_words.specs.declared.session.SessionState.{SessionState}
+use Rattle.sql_ast.specs.Names.{says_names}
+use Rattle.sql_ast.specs.declared.session.SessionState.{SessionState}
 use Rattle.dd_catalog.specs.Catalog.{Catalog}
-use Rattle.dd_engine.specs.History.{Step, StepByStep, catalog_left, sessions_left, catalog_after, sessions_after, draws, effect}
+use Rattle.rules_outcome.specs.Choices.{draws}
+use Rattle.dd_engine.specs.History.{AllSayNames, Step, StepByStep, catalog_left, sessions_left, catalog_after, sessions_after, effect}
 use Rattle.dd_engine.specs.Drawn.{DrawsFrom, DrawsNext, behind, next_left}
 use Rattle.dd_engine.specs.Engine.{IsPlain, ArePlainFrom}
 
@@ -36,3 +38,7 @@ pub DrawsFrom-push : (cat : Catalog) (sessions : ℕ → SessionState) (next : �
 DrawsFrom-push cat sessions next [] e drawn here = (here, tt)
 DrawsFrom-push cat sessions next (f ∷ history) e drawn here =
     (drawn.0, DrawsFrom-push (catalog_after cat sessions f) (sessions_after cat sessions f) (behind (draws (effect cat sessions f)) next) history e drawn.1 here)
+
+pub AllSayNames-push : (history : List Entry) (e : Entry) → AllSayNames history → says_names e.statement ≡ true → AllSayNames (history ++ e ∷ [])
+AllSayNames-push [] e all here = (here, tt)
+AllSayNames-push (f ∷ history) e all here = (all.0, AllSayNames-push history e all.1 here)

@@ -1,12 +1,12 @@
 -- The numbers that a dictionary draws for ids and tablespaces, one after another.
 use Rattle.std.specs.Prelude.{ℕ, ◌≡◌, ◌+◌, Bool, true, false, List, [], ◌∷◌, ⊤}
-use Rattle.ddl_words.specs.declared.session.SessionState.{SessionState}
+use Rattle.sql_ast.specs.declared.session.SessionState.{SessionState}
 use Rattle.dd_catalog.specs.Catalog.{Catalog}
-use Rattle.ddl_decided.specs.Choices.{Choice, takes_space}
+use Rattle.rules_outcome.specs.Choices.{Choice, takes_space, draws}
 use Rattle.dd_engine.specs.declared.history.Answer.{Answer}
 use Rattle.dd_engine.specs.declared.history.Answer.TheVariants.{Done, Rows, Error, Memory, NoSpaceId}
 use Rattle.dd_engine.specs.declared.history.Entry.{Entry}
-use Rattle.dd_engine.specs.History.{draws, effect, catalog_after, sessions_after}
+use Rattle.dd_engine.specs.History.{effect, catalog_after, sessions_after}
 
 -- the number that a tablespace takes, if one is made
 abbrev pub spaces_of : Bool → ℕ → List ℕ

@@ -3,17 +3,17 @@ use Rattle.std.specs.Prelude.{ℕ, ◌≡◌, ◌≤◌, ◌<◌, ◌+◌, true,
 use Rattle.dd_names.specs.declared.object_name.ObjName.{ObjName}
 use Rattle.dd_errors.specs.Errors.{ErrorValue}
 use Rattle.dd_definitions.specs.declared.parts.TableParts.{TableParts}
-use Rattle.ddl_words.specs.declared.statement.Statement.{Statement}
+use Rattle.sql_ast.specs.declared.statement.Statement.{Statement}
 use Rattle.dd_catalog.specs.Catalog.{Catalog, Table, empty_catalog}
 use Rattle.dd_catalog.specs.Valid.{Has}
 use Rattle.dd_catalog.specs.Walks.{Found}
-use Rattle.ddl_decided.specs.Choices.{Choice, catalog_behind, session_behind, takes_space}
-use Rattle.ddl_plan.specs.Outcome.{outcome_over}
+use Rattle.rules_outcome.specs.Choices.{Choice, catalog_behind, session_behind, takes_space, draws}
+use Rattle.rules_decide.specs.Outcome.{outcome_over}
 use Rattle.dd_engine.specs.declared.history.Answer.{Answer}
 use Rattle.dd_engine.specs.declared.history.Entry.{Entry}
 use Rattle.dd_engine.specs.declared.state.State.{State}
 use Rattle.dd_engine.specs.Catalog.{new_session}
-use Rattle.dd_engine.specs.History.{AnswersFound, choice_found, done_of, draws, space_in, LegalHistory, after_all, sessions_left}
+use Rattle.dd_engine.specs.History.{AllSayNames, AnswersFound, choice_found, done_of, space_in, LegalHistory, after_all, sessions_left}
 use Rattle.dd_engine.specs.Drawn.{DrawsFrom, IsOutAt, behind, next_left, spaces_of}
 
 -- the entry with this number of the only session, over no disk
@@ -49,6 +49,7 @@ StandsIfKept history (Some state) = Stands history state
 pub record IsPlainHistory (history : List Entry) : Type 0 where
   pub legal : LegalHistory empty_catalog history
   pub plain : ArePlainFrom 0 history
+  pub named : AllSayNames history
   pub numbers : DrawsFrom empty_catalog new_session 1 history
 
 -- the history is such a one, and the state that is kept is the one that it leaves

@@ -1,32 +1,19 @@
 -- The histories that a dictionary of one thread may make.
 use Rattle.std.specs.Prelude.{ℕ, ◌≡◌, ◌+◌, ◌==◌, Bool, true, false, List, [], ◌∷◌, filter, take, Option, Some, None, if◌then◌else◌, ⊤}
-use Rattle.std.specs.List.{list_any}
+use Rattle.std.specs.List.{AllByRecursion}
 use Rattle.dd_errors.specs.Errors.{ErrorValue}
-use Rattle.ddl_words.specs.declared.session.SessionState.{SessionState}
+use Rattle.sql_ast.specs.Names.{says_names}
+use Rattle.sql_ast.specs.declared.session.SessionState.{SessionState}
 use Rattle.dd_catalog.specs.Catalog.{Catalog}
 use Rattle.dd_catalog.specs.Walks.{Found, fine, refused, needs}
-use Rattle.ddl_decided.specs.Choices.{After, Gone, Schema, FreshTable, KeptTable, View, Change, Choice, Same, Changes, Lists, catalog_behind, session_behind, takes_space, IsNewSpace}
-use Rattle.ddl_plan.specs.Outcome.{outcome_over}
+use Rattle.rules_outcome.specs.Choices.{Choice, Same, Changes, Lists, catalog_behind, session_behind, draws, takes_space, IsNewSpace}
+use Rattle.rules_decide.specs.Outcome.{outcome_over}
 use Rattle.dd_engine.specs.declared.history.Answer.{Answer}
 use Rattle.dd_engine.specs.declared.history.Answer.TheVariants.{Done, Rows, Error, Memory, NoSpaceId}
 use Rattle.dd_engine.specs.declared.history.Entry.{Entry}
 use Rattle.dd_engine.specs.Catalog.{new_session}
 
 -- ## Numbers
-
--- a schema, or a table with a new tablespace, is made
-abbrev pub takes_number : After → Bool
-takes_number Gone = false
-takes_number Schema = true
-takes_number (FreshTable parts) = true
-takes_number (KeptTable space parts) = false
-takes_number (View parts) = false
-
--- what is chosen draws a number
-abbrev pub draws : Choice → Bool
-draws Same = false
-draws (Changes changes session) = list_any (λ (c : Change). takes_number c.after) changes
-draws (Lists listing) = false
 
 -- it draws a number, and this is the one behind the last
 abbrev pub IsOut : Choice → ℕ → Type 0
@@ -153,3 +140,7 @@ NumberedFrom n (e ∷ entries) = (e.number ≡ n) × NumberedFrom (n + 1) entrie
 -- The numbers of each session's entries are 0, 1, 2 and so on.
 abbrev pub IsNumbered : List Entry → Type 0
 IsNumbered history = (s : ℕ) → NumberedFrom 0 (part history s)
+
+-- each statement of the history says names
+abbrev pub AllSayNames : List Entry → Type 0
+AllSayNames history = AllByRecursion (λ (e : Entry). says_names e.statement ≡ true) history

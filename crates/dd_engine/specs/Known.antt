@@ -1,14 +1,15 @@
 -- What is known while a statement is decided over a whole catalog.
-use Rattle.std.specs.Prelude.{◌≡◌, ◌<◌, ℕ, Option, Some, None}
+use Rattle.std.specs.Prelude.{◌<◌, ℕ, Option, Some, None, Result, Ok, Err}
 use Rattle.std.specs.Option.{option_map}
 use Rattle.dd_errors.specs.Errors.{ErrorValue}
 use Rattle.dd_catalog.specs.Catalog.{Catalog, sight_of, all_of}
 use Rattle.dd_catalog.specs.Walks.{Walk, run}
 use Rattle.dd_catalog.specs.WalkLaws.{Look, IsOf, left}
 use Rattle.dd_catalog.specs.Follow.{sights}
-use Rattle.ddl_decided.specs.Choices.{Choice}
-use Rattle.ddl_decided.specs.Decided.{found_of}
-use Rattle.ddl_decided.specs.declared.decided.Decided.{Decided}
+use Rattle.rules_outcome.specs.Choices.{Choice}
+use Rattle.dd_catalog.specs.declared.stop.Stop.{Stop}
+use Rattle.rules_outcome.specs.declared.decided.Decided.{Decided}
+use Rattle.rules_decide.specs.Outcome.{DecidesIf}
 use Rattle.plain_catalog.specs.declared.part.Part.{Part}
 use Rattle.plain_catalog.specs.Known.{known_in}
 
@@ -26,6 +27,7 @@ left_in cat None part = 0
 left_in cat (Some check) part = left (sight_of cat) (seen_in part) check
 
 -- it is decided as over the whole catalog, or one more key is known
-abbrev pub Turned : Catalog → Option (Walk ErrorValue Choice) → Part → Part → Option Decided → Type 0
-Turned cat check old new (Some decided) = option_map (run (all_of cat)) check ≡ Some (found_of decided)
-Turned cat check old new None = IsKnown cat new × (left_in cat check new < left_in cat check old)
+abbrev pub Turned : Catalog → Option (Walk ErrorValue Choice) → Part → Part → Result (Option Decided) Stop → Type 0
+Turned cat check old new (Ok (Some decided)) = DecidesIf (Ok decided) (option_map (run (all_of cat)) check)
+Turned cat check old new (Ok None) = IsKnown cat new × (left_in cat check new < left_in cat check old)
+Turned cat check old new (Err stop) = DecidesIf (Err stop) (option_map (run (all_of cat)) check)

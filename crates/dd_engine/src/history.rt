@@ -1,10 +1,10 @@
 use dd_errors::SqlError;
 use dd_names::List;
-use dd_objects::Listing;
-use ddl_words::Statement;
+use sql_ast::Statement;
+use sql_types::Listing;
 
 /// What a statement was answered.
-#[derive(Debug, Drop)]
+#[derive(Drop)]
 pub enum Answer {
     /// It was done, with its changes if it has any.
     Done,
@@ -22,7 +22,7 @@ pub enum Answer {
 }
 
 /// A statement with its answer.
-#[derive(Debug, Drop)]
+#[derive(Drop)]
 pub struct Entry {
     /// The session, counted from 0.
     pub session: u32,

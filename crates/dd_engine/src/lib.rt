@@ -2,13 +2,12 @@
 #![tactic(auto)]
 
 mod decided_over;
+mod foresee;
 mod history;
 mod laws;
 mod plain_engine;
 mod settle;
 mod state;
-#[cfg(test)]
-mod tests;
 
 pub use history::{Answer, Entry, History};
 pub use laws::histories_keep_validity;

@@ -1,6 +1,7 @@
 ghost use Rattle.std.specs.Prelude.{◌≡◌, ◌<◌, ◌^◌, [], IfErr, OnOk, length, true};
+ghost use Rattle.sql_ast.specs.Names.{says_names};
 ghost use Rattle.dd_catalog.specs.Catalog.{empty_catalog};
-ghost use Rattle.ddl_plan.specs.Outcome.{is_decided};
+ghost use Rattle.rules_decide.specs.Outcome.{is_decided};
 ghost use Rattle.dd_engine.specs.Catalog.{new_session};
 ghost use Rattle.dd_engine.specs.Engine.{Adds, IsPlainHistory};
 
@@ -8,8 +9,8 @@ use crate::history::{Entry, History};
 use crate::settle::step;
 use crate::state::State;
 use dd_names::List;
-use ddl_words::{SessionState, Statement};
 use plain_catalog::PlainCatalog;
+use sql_ast::{SessionState, Statement};
 use std::alloc::{AllocError, Global};
 use std::marker::Model;
 
@@ -48,11 +49,12 @@ impl PlainEngine {
         }
     }
 
-    /// Answers a statement of a kind that is decided by one entry more, or hands it back for want of memory, and its history
-    /// stays as it is.
+    /// Answers a statement that is decided and says names by one entry more, or hands it back for want of memory, and its
+    /// history stays as it is.
     pub fn answer(&mut self, statement: Statement) -> Result<(), (Statement, AllocError)>
         requires room { length self.old < 2 ^ 32 }
         requires run { is_decided statement ≡ true }
+        requires names { says_names statement ≡ true }
         ensures ok { OnOk result (Adds self.old self.new statement) }
         ensures err { IfErr result (λ back. (back.0 ≡ statement) × (self.new ≡ self.old)) }
         ensures said { IsPlainHistory self.new }

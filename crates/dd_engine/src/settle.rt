@@ -3,22 +3,21 @@ ghost use Rattle.std.specs.Prelude.{◌≡◌, ◌<◌, IfOk, OnErr, None, true}
 ghost use Rattle.std.specs.List.{list_any};
 ghost use Rattle.dd_errors.specs.Errors.{ErrorValue};
 ghost use Rattle.dd_catalog.specs.Walks.{Found, fine};
-ghost use Rattle.dd_catalog.specs.WalkLaws.{IsSettled};
-ghost use Rattle.ddl_decided.specs.Choices.{Choice, Same, makes_space, takes_space};
-ghost use Rattle.ddl_decided.specs.declared.decided.Edit.{Edit};
-ghost use Rattle.ddl_decided.specs.Decided.{change_of, choice_of, found_of};
-ghost use Rattle.ddl_plan.specs.Outcome.{is_decided};
+ghost use Rattle.rules_outcome.specs.Choices.{Choice, Same, draws, makes_space, takes_number, takes_space};
+ghost use Rattle.rules_outcome.specs.declared.decided.Edit.{Edit};
+ghost use Rattle.rules_outcome.specs.Decided.{change_of, choice_of, chosen};
+ghost use Rattle.rules_decide.specs.Outcome.{is_decided};
 ghost use Rattle.dd_engine.specs.Drawn.{IsOutAt, spaces_of};
 ghost use Rattle.dd_engine.specs.Engine.{Answered, Settles, Steps};
-ghost use Rattle.dd_engine.specs.History.{AnswersFound, choice_found, done_of, draws, space_in, takes_number};
+ghost use Rattle.dd_engine.specs.History.{AnswersFound, choice_found, done_of, space_in};
 
 use crate::decided_over::decided_over;
 use crate::history::Answer;
 use crate::state::State;
-use dd_catalog::Object;
+use dd_catalog::Stop;
 use dd_names::List;
-use ddl_decided::{Decided, Edit, Edits};
-use ddl_words::Statement;
+use rules_outcome::{After, Decided, Edit, Edits};
+use sql_ast::Statement;
 use std::alloc::{AllocError, Global};
 
 /// A statement's answer, with the numbers of tablespaces that it took.
@@ -64,20 +63,19 @@ fn answered(alloc: Global, state: State, statement: &Statement) -> Result<Settle
 {
     match decided_over(alloc, &state.catalog, &state.session, statement) {
         Ok(decided) => settle(alloc, state, decided),
-        Err(_) => Ok(unchanged(alloc, state, Answer::Memory)),
+        Err(Stop::Refused(error)) => Ok(unchanged(alloc, state, Answer::Error(error))),
+        Err(Stop::Memory) => Ok(unchanged(alloc, state, Answer::Memory)),
+        Err(Stop::Need(_)) => unreachable!(),
     }
 }
 
 fn settle(alloc: Global, state: State, decided: Decided) -> Result<Settled, AllocError>
-    requires { IsSettled (found_of decided) }
-    ensures { IfOk result (λ settled. Settles (found_of decided) state settled.answer settled.state settled.spaces) }
+    ensures { IfOk result (λ settled. Settles (fine (chosen decided)) state settled.answer settled.state settled.spaces) }
 {
     match decided {
         Decided::Edits(edits) => settle_edits(alloc, state, edits),
         Decided::Same => Ok(unchanged(alloc, state, Answer::Done)),
         Decided::Rows(listing) => Ok(unchanged(alloc, state, Answer::Rows(listing))),
-        Decided::Refused(error) => Ok(unchanged(alloc, state, Answer::Error(error))),
-        Decided::Need(_) => unreachable!(),
     }
 }
 
@@ -186,17 +184,19 @@ fn takes_number(edit: &Edit) -> bool
     ensures { result ≡ takes_number (change_of edit.now).after }
 {
     match &edit.after {
-        Some(Object::Schema { .. }) => true,
-        Some(Object::Table { .. }) => edit.rebuild,
-        _ => false,
+        After::NewSchema
+        | After::NewTable { .. }
+        | After::RebuiltTable { .. }
+        | After::NewView { .. } => true,
+        After::Gone | After::KeptTable { .. } | After::KeptView { .. } => false,
     }
 }
 
 fn makes_space(edit: &Edit) -> bool
     ensures { result ≡ makes_space (change_of edit.now).after }
 {
-    match &edit.after {
-        Some(Object::Table { .. }) => edit.rebuild,
-        _ => false,
-    }
+    matches!(
+        &edit.after,
+        After::NewTable { .. } | After::RebuiltTable { .. }
+    )
 }

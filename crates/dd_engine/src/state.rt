@@ -1,5 +1,5 @@
-use ddl_words::SessionState;
 use plain_catalog::PlainCatalog;
+use sql_ast::SessionState;
 
 /// What a dictionary of one session keeps between two statements.
 #[derive(Drop)]

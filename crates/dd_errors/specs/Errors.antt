@@ -2,41 +2,33 @@
 use Rattle.std.specs.Prelude.{ℕ, ◌≡◌, ◌==◌, List, [], ◌∷◌, ◌++◌, length, Option, None, Some, is_some, option_map, IsTrue, count_by}
 use Rattle.std.specs.List.{find, before_first, after_first}
 use Rattle.std.specs.Option.{option_or}
-use Rattle.dd_errors.specs.declared.table.TheConstants.{FROM_1007, FROM_1064, FROM_1113, FROM_1701}
+use Rattle.dd_errors.specs.Table.{ErrorForm, Row, from_1007, from_1064, from_1113, from_1701}
 
 -- an error's number and the arguments of its text
 pub record ErrorValue : Type 0 where
   pub number : ℕ
   pub args : List (List ℕ)
 
--- what the table has for a number: a state, and a text with a '%' in the place of each argument
-pub record ErrorForm : Type 0 where
-  pub state : List ℕ
-  pub template : List ℕ
-
-abbrev pub error_form : List ℕ → List ℕ → ErrorForm
-error_form state template = record { state = state; template = template }
-
 -- the first of the rows that has the number
-abbrev pub form_among : List (ℕ × List ℕ × record { now : List ℕ }) → ℕ → Option ErrorForm
-form_among rows number = option_map (λ row. error_form row.1 row.2.now) (find (λ row. row.0 == number) rows)
+abbrev pub form_among : List Row → ℕ → Option ErrorForm
+form_among rows number = option_map (λ row. row.1) (find (λ row. row.0 == number) rows)
 
 unfoldable pub form_from_1007 : ℕ → Option ErrorForm
-form_from_1007 number = form_among FROM_1007 number
+form_from_1007 number = form_among from_1007 number
 
 unfoldable pub form_from_1064 : ℕ → Option ErrorForm
-form_from_1064 number = form_among FROM_1064 number
+form_from_1064 number = form_among from_1064 number
 
 unfoldable pub form_from_1113 : ℕ → Option ErrorForm
-form_from_1113 number = form_among FROM_1113 number
+form_from_1113 number = form_among from_1113 number
 
 unfoldable pub form_from_1701 : ℕ → Option ErrorForm
-form_from_1701 number = form_among FROM_1701 number
+form_from_1701 number = form_among from_1701 number
 
 -- what the table has for a number: one of its four parts tells
 unfoldable pub form_of : ℕ → Option ErrorForm
 form_of number =
-    option_or (option_or (option_or (form_among FROM_1007 number) (form_among FROM_1064 number)) (form_among FROM_1113 number)) (form_among FROM_1701 number)
+    option_or (option_or (option_or (form_among from_1007 number) (form_among from_1064 number)) (form_among from_1113 number)) (form_among from_1701 number)
 
 abbrev pub state_in : Option ErrorForm → List ℕ
 state_in None = []

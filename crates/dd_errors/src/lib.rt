@@ -3,7 +3,5 @@
 
 mod sql_error;
 mod table;
-#[cfg(test)]
-mod tests;
 
 pub use sql_error::SqlError;

@@ -1,6 +1,7 @@
-ghost use Rattle.std.specs.Prelude.{◌≡◌, ◌==◌, ℕ, List, IfOk, Some, IsTrue, is_some, option_map};
+ghost use Rattle.std.specs.Prelude.{◌≡◌, ◌==◌, ◌++◌, ℕ, List, IfOk, OnOk, Some, IsTrue, is_some, option_map};
 ghost use Rattle.std.specs.List.{find, before_first, after_first};
-ghost use Rattle.dd_errors.specs.Errors.{IsInTable, error_state, error_text, filled, form_of, error_form, form_from_1007, form_from_1064, form_from_1113, form_from_1701};
+ghost use Rattle.dd_errors.specs.Table.{error_form};
+ghost use Rattle.dd_errors.specs.Errors.{IsInTable, error_state, error_text, filled, form_of, form_from_1007, form_from_1064, form_from_1113, form_from_1701};
 
 use crate::table::{ErrorRow, FROM_1007, FROM_1064, FROM_1113, FROM_1701};
 use dd_names::{List, Text, TryCopy};
@@ -8,7 +9,7 @@ use std::alloc::{AllocError, Global};
 use std::marker::Model;
 
 /// A refusal of a statement: the number of an error that the table has, with the arguments of its text in order.
-#[derive(Debug, Drop)]
+#[derive(Drop)]
 pub struct SqlError {
     number: u16,
     args: List<Text>,
@@ -72,7 +73,7 @@ impl TryCopy for SqlError {
 }
 
 /// What the table has for a number: the state, and the text with a `%` in the place of each argument.
-pub(crate) type ErrorForm = ([u8; 5], &'static str);
+type ErrorForm = ([u8; 5], &'static str);
 
 fn form_among(rows: &[ErrorRow], number: u16) -> Option<ErrorForm>
     ensures { option_map (λ form. error_form form.0 form.1.now) result
@@ -83,28 +84,24 @@ fn form_among(rows: &[ErrorRow], number: u16) -> Option<ErrorForm>
         .map(|row| (row.1, row.2))
 }
 
-#[tactic(auto, unfolding(crate::specs::Errors::form_from_1007))]
 fn form_from_1007(number: u16) -> Option<ErrorForm>
     ensures { option_map (λ form. error_form form.0 form.1.now) result ≡ form_from_1007 number }
 {
     form_among(&FROM_1007, number)
 }
 
-#[tactic(auto, unfolding(crate::specs::Errors::form_from_1064))]
 fn form_from_1064(number: u16) -> Option<ErrorForm>
     ensures { option_map (λ form. error_form form.0 form.1.now) result ≡ form_from_1064 number }
 {
     form_among(&FROM_1064, number)
 }
 
-#[tactic(auto, unfolding(crate::specs::Errors::form_from_1113))]
 fn form_from_1113(number: u16) -> Option<ErrorForm>
     ensures { option_map (λ form. error_form form.0 form.1.now) result ≡ form_from_1113 number }
 {
     form_among(&FROM_1113, number)
 }
 
-#[tactic(auto, unfolding(crate::specs::Errors::form_from_1701))]
 fn form_from_1701(number: u16) -> Option<ErrorForm>
     ensures { option_map (λ form. error_form form.0 form.1.now) result ≡ form_from_1701 number }
 {
@@ -112,7 +109,7 @@ fn form_from_1701(number: u16) -> Option<ErrorForm>
 }
 
 #[tactic(auto, using(crate::proofs::Parts::form_by_parts))]
-pub(crate) fn form_in_table(number: u16) -> Option<ErrorForm>
+fn form_in_table(number: u16) -> Option<ErrorForm>
     ensures { option_map (λ form. error_form form.0 form.1.now) result ≡ form_of number }
 {
     form_from_1007(number)
@@ -138,12 +135,18 @@ fn text_with(alloc: Global, template: &str, args: &[Text]) -> Result<Text, Alloc
     let mut rest = template;
     for arg in args {
         let (before, after) = parted(rest);
-        text.push_str(before)?;
-        text.push_str(arg.as_str())?;
+        push_both(&mut text, before, arg.as_str())?;
         rest = after;
     }
     text.push_str(rest)?;
     Ok(text)
+}
+
+fn push_both(text: &mut Text, before: &str, arg: &str) -> Result<(), AllocError>
+    ensures { OnOk result (text.new ≡ text.old ++ before.now ++ arg.now) }
+{
+    text.push_str(before)?;
+    text.push_str(arg)
 }
 
 fn parted(text: &str) -> (&str, &str)

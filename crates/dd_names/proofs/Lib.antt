@@ -1,3 +1,4 @@
 pub mod Apart
 pub mod Folding
 pub mod Reading
+pub mod Words

@@ -1,5 +1,5 @@
 -- Which texts are names, and how names are compared.
-use Rattle.std.specs.Prelude.{ℕ, ◌==◌, ◌<◌, ◌≤◌, ◌||◌, ◌&&◌, not, Bool, nat_lt, List, length, Option, None, Some, if◌then◌else◌, IsTrue, position}
+use Rattle.std.specs.Prelude.{ℕ, ◌==◌, ◌<◌, ◌≤◌, ◌||◌, ◌&&◌, not, Bool, nat_le, nat_lt, List, length, Option, None, Some, if◌then◌else◌, IsTrue, position}
 use Rattle.std.specs.List.{list_all}
 use Rattle.std.specs.Char.{is_ascii_alphanumeric, is_ascii_digit}
 use Rattle.std.specs.Str.{bytes_eq, str_to_ascii_lowercase}
@@ -18,6 +18,10 @@ pub record IsName (bytes : List ℕ) : Type 0 where
   pub some : 0 < length bytes
   pub short : length bytes ≤ 64
   pub each : IsTrue (list_all is_name_byte bytes)
+
+-- the same, as a test
+abbrev pub is_name : List ℕ → Bool
+is_name bytes = nat_lt 0 (length bytes) && nat_le (length bytes) 64 && list_all is_name_byte bytes
 
 -- why characters that names have are no name: digits alone outside quotes, then too many
 abbrev pub fault_of_good : List ℕ → Bool → Option NameFault

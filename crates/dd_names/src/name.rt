@@ -1,11 +1,10 @@
 ghost use Rattle.std.specs.Prelude.{◌≡◌, ◌⊎◌, ◌==◌, IfOk, None, Some, MatchResult, position, not, refl};
-ghost use Rattle.std.specs.List.{list_all};
-ghost use Rattle.std.specs.Char.{is_ascii_digit};
 ghost use Rattle.std.specs.Str.{bytes_eq};
 ghost use Rattle.std.specs.Cmp.{partial_equiv_from_equiv};
 ghost use Rattle.std.specs.Cmp.Lexicographic.{nat_list_cmp_total, nat_list_eq_equiv, texts_po, texts_ties};
-ghost use Rattle.dd_names.specs.Names.{name_fault, same, is_name_byte, fold, name_cmp};
+ghost use Rattle.dd_names.specs.Names.{IsName, name_fault, same, is_name_byte, fold, name_cmp};
 
+use crate::digits::are_digits;
 use crate::text::Text;
 use crate::try_copy::TryCopy;
 use std::alloc::{AllocError, Global};
@@ -32,7 +31,7 @@ pub enum NameFault {
 
 /// A name of 1 to 64 characters, as it was written: letters, digits and `_`. Contracts see its bytes, and names are
 /// compared byte by byte; `same` takes no notice of case (MySQL 8.0 Reference Manual, 9.2 and 9.2.3).
-#[derive(Debug, Drop)]
+#[derive(Drop)]
 pub struct Name {
     text: Text,
 }
@@ -67,7 +66,8 @@ impl Name {
 
     /// The name as it was written.
     pub fn as_str(&self) -> &str
-        ensures { result.now ≡ self.now }
+        ensures text { result.now ≡ self.now }
+        ensures name { IsName result.now }
     {
         self.text.as_str()
     }
@@ -164,12 +164,6 @@ fn first_bad(bytes: &[u8]) -> Option<usize>
     ensures { result ≡ position (λ c. not (is_name_byte c)) bytes.now }
 {
     bytes.iter().position(|c| !is_name_byte(*c))
-}
-
-fn are_digits(bytes: &[u8]) -> bool
-    ensures { result ≡ list_all is_ascii_digit bytes.now }
-{
-    bytes.iter().all(|c| c.is_ascii_digit())
 }
 
 fn is_name_byte(c: u8) -> bool

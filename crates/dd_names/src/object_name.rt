@@ -1,10 +1,10 @@
 use crate::name::Name;
-use crate::try_copy::TryCopy;
+use crate::try_copy::{TryCopy, both};
 use std::alloc::AllocError;
 
 /// The name of a table or a view with the name of its schema. Object names are in order of their schemas and then of
 /// their own names, each byte by byte (MySQL 8.0 Reference Manual, 9.2.2).
-#[derive(Debug, Drop, PartialEq, Eq, PartialOrd, Ord)]
+#[derive(Drop, PartialEq, Eq, PartialOrd, Ord)]
 pub struct ObjName {
     /// The schema's name.
     pub schema: Name,
@@ -14,16 +14,16 @@ pub struct ObjName {
 
 impl TryCopy for ObjName {
     fn copy(&self) -> Result<ObjName, AllocError> {
-        Ok(ObjName {
-            schema: self.schema.copy()?,
-            name: self.name.copy()?,
-        })
+        match both(self.schema.copy(), self.name.copy()) {
+            Ok((schema, name)) => Ok(ObjName { schema, name }),
+            Err(error) => Err(error),
+        }
     }
 }
 
 /// What can be looked at in a dictionary, each by its key. Keys are in the order of their variants, and within one in
 /// that of their names.
-#[derive(Debug, Drop, PartialEq, Eq, PartialOrd, Ord)]
+#[derive(Drop, PartialEq, Eq, PartialOrd, Ord)]
 pub enum ObjectKey {
     /// The names of all schemas.
     Schemas,
@@ -43,14 +43,14 @@ impl TryCopy for ObjectKey {
     fn copy(&self) -> Result<ObjectKey, AllocError> {
         match self {
             ObjectKey::Schemas => Ok(ObjectKey::Schemas),
-            ObjectKey::Schema(name) => Ok(ObjectKey::Schema(name.copy()?)),
-            ObjectKey::Objects(schema) => Ok(ObjectKey::Objects(schema.copy()?)),
-            ObjectKey::Object(name) => Ok(ObjectKey::Object(name.copy()?)),
-            ObjectKey::Children(parent) => Ok(ObjectKey::Children(parent.copy()?)),
-            ObjectKey::Constraint { schema, folded } => Ok(ObjectKey::Constraint {
-                schema: schema.copy()?,
-                folded: folded.copy()?,
-            }),
+            ObjectKey::Schema(name) => name.copy().map(ObjectKey::Schema),
+            ObjectKey::Objects(schema) => schema.copy().map(ObjectKey::Objects),
+            ObjectKey::Object(name) => name.copy().map(ObjectKey::Object),
+            ObjectKey::Children(parent) => parent.copy().map(ObjectKey::Children),
+            ObjectKey::Constraint { schema, folded } => match both(schema.copy(), folded.copy()) {
+                Ok((schema, folded)) => Ok(ObjectKey::Constraint { schema, folded }),
+                Err(error) => Err(error),
+            },
         }
     }
 }

@@ -74,7 +74,7 @@ fn is_among(word: &str, words: &[&str]) -> bool
 }
 
 /// Whether the word, in any case, is no name unless it is quoted.
-#[tactic(auto, unfolding(crate::specs::Reserved::is_reserved))]
+#[tactic(auto, using(crate::proofs::Words::among_reserved))]
 pub fn is_reserved(word: &str) -> bool
     ensures { result ≡ is_reserved word.now }
 {
@@ -82,7 +82,7 @@ pub fn is_reserved(word: &str) -> bool
 }
 
 /// Whether the name, in any case, is that of a schema that the server has for itself.
-#[tactic(auto, unfolding(crate::specs::Reserved::is_system_schema))]
+#[tactic(auto, using(crate::proofs::Words::among_system))]
 pub fn is_system_schema(name: &str) -> bool
     ensures { result ≡ is_system_schema name.now }
 {

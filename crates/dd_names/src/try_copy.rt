@@ -1,4 +1,4 @@
-ghost use Rattle.std.specs.Prelude.{◌≡◌, IfOk};
+ghost use Rattle.std.specs.Prelude.{◌≡◌, IfOk, Ok};
 
 use std::alloc::AllocError;
 
@@ -27,5 +27,18 @@ impl<T: TryCopy> TryCopy for Option<T> {
             None => Ok(None),
             Some(value) => Ok(Some(value.copy()?)),
         }
+    }
+}
+
+/// Both values, where neither lacks memory. A struct of several fields is copied by it without leaving in between.
+pub fn both<A: Drop, B: Drop>(
+    a: Result<A, AllocError>,
+    b: Result<B, AllocError>,
+) -> Result<(A, B), AllocError>
+    ensures { IfOk result (λ pair. (a ≡ Ok pair.0) × (b ≡ Ok pair.1)) }
+{
+    match (a, b) {
+        (Ok(a), Ok(b)) => Ok((a, b)),
+        _ => Err(AllocError),
     }
 }

@@ -20,7 +20,7 @@ pub enum Call {
 }
 
 /// A call that fails.
-#[derive(Debug, Drop)]
+#[derive(Drop)]
 pub enum FailAt {
     /// The call with this number, counted from 1 over all calls that may fail.
     Call(u64),

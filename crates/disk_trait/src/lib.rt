@@ -3,8 +3,6 @@
 
 mod calls;
 mod path;
-#[cfg(test)]
-mod tests;
 mod through;
 
 pub use calls::{Disk, Failed, ListFault};

@@ -1,5 +1,5 @@
-// The adapters over std's readers and writers. They tell no bytes, and count each error.
-ghost use Rattle.std.specs.Prelude.{◌≡◌, None};
+// The adapters over std's readers and writers. They tell the bytes that those tell, and count each error.
+ghost use Rattle.std.specs.Prelude.{◌≡◌};
 
 use crate::stream::{Failed, Sink, Source};
 use std::io::{Read, Write};
@@ -14,14 +14,15 @@ pub struct StdSource<R: Read> {
 impl<R: Read> StdSource<R> {
     /// A source over `reader` that has counted no fault.
     pub fn new(reader: R) -> StdSource<R>
-        ensures { ⟦<StdSource<R> as Source>⟧.faults result ≡ 0 }
+        ensures left { ⟦<StdSource<R> as Source>⟧.left result ≡ R.remaining reader }
+        ensures faults { ⟦<StdSource<R> as Source>⟧.faults result ≡ 0 }
     {
         StdSource { reader, faults: 0 }
     }
 }
 
 impl<R: Read> Source for StdSource<R> {
-    ghost left = { λ _. None };
+    ghost left = { λ s. R.remaining s.reader };
 
     ghost faults = { λ s. s.faults };
 
@@ -53,14 +54,15 @@ pub struct StdSink<W: Write> {
 impl<W: Write> StdSink<W> {
     /// A sink over `writer` that has counted no fault.
     pub fn new(writer: W) -> StdSink<W>
-        ensures { ⟦<StdSink<W> as Sink>⟧.faults result ≡ 0 }
+        ensures held { ⟦<StdSink<W> as Sink>⟧.held result ≡ W.contents writer }
+        ensures faults { ⟦<StdSink<W> as Sink>⟧.faults result ≡ 0 }
     {
         StdSink { writer, faults: 0 }
     }
 }
 
 impl<W: Write> Sink for StdSink<W> {
-    ghost held = { λ _. None };
+    ghost held = { λ s. W.contents s.writer };
 
     ghost faults = { λ s. s.faults };
 

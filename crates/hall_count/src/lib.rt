@@ -2,8 +2,6 @@
 #![tactic(auto)]
 
 mod tally;
-#[cfg(test)]
-mod tests;
 mod together;
 mod turns;
 

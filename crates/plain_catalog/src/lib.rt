@@ -8,8 +8,6 @@ mod object_map;
 mod part;
 mod plain_catalog;
 mod stored;
-#[cfg(test)]
-mod tests;
 
 pub use name_set::NameSet;
 pub use object_map::ObjectMap;

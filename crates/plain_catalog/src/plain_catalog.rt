@@ -2,8 +2,8 @@ ghost use Rattle.std.specs.Prelude.{◌≡◌, map, IfOk, OnOk};
 ghost use Rattle.std.specs.FinMap as finite_map;
 ghost use Rattle.dd_catalog.specs.Catalog.{sight_of, empty_catalog, schema_seen, object_seen, owner_among};
 ghost use Rattle.dd_catalog.specs.Sights.{sight};
-ghost use Rattle.ddl_decided.specs.Choices.{applied, applied_at};
-ghost use Rattle.ddl_decided.specs.Decided.{after_of, change_of};
+ghost use Rattle.rules_outcome.specs.Choices.{applied, applied_at};
+ghost use Rattle.rules_outcome.specs.Decided.{after_of, change_of};
 ghost use Rattle.plain_catalog.specs.Whole.{catalog_of};
 
 use crate::changed::{change_object, change_schema};
@@ -12,7 +12,7 @@ use crate::name_set::NameSet;
 use crate::object_map::ObjectMap;
 use dd_catalog::Object;
 use dd_names::{List, Name, ObjName, ObjectKey, TryCopy};
-use ddl_decided::Edit;
+use rules_outcome::Edit;
 use std::alloc::{AllocError, Global};
 use std::marker::Model;
 
@@ -67,20 +67,13 @@ impl PlainCatalog {
     }
 
     fn apply_edit(&mut self, edit: Edit, space: u32) -> Result<(), AllocError>
-        ensures { OnOk result (self.new ≡ applied_at space edit.key (after_of edit.rebuild edit.after) self.old) }
+        ensures { OnOk result (self.new ≡ applied_at space edit.key (after_of edit.after) self.old) }
     {
-        let Edit {
-            key,
-            before,
-            after,
-            rebuild,
-        } = edit;
+        let Edit { key, before, after } = edit;
         drop(before);
         match key {
             ObjectKey::Schema(name) => change_schema(&mut self.schemas, name, after),
-            ObjectKey::Object(name) => {
-                change_object(&mut self.objects, name, after, rebuild, space)
-            }
+            ObjectKey::Object(name) => change_object(&mut self.objects, name, after, space),
             _ => Ok(()),
         }
     }

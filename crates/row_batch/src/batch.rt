@@ -11,7 +11,7 @@ use std::marker::Model;
 
 /// Operations in the order of a batch: deletions, then prefix deletions, then puts, each group in key order. They take
 /// effect in this order. A batch whose frame is made, the bytes that a journal takes, gets no more operations.
-#[derive(Debug, Drop)]
+#[derive(Drop)]
 pub struct Batch {
     operations: Vec<Operation>,
     framed: Option<Vec<u8>>,

@@ -6,7 +6,7 @@ use crate::bytes::Bytes;
 use std::alloc::{AllocError, Global};
 
 /// A change of a map of rows.
-#[derive(Debug, Drop)]
+#[derive(Drop)]
 pub enum Operation {
     /// The row of a key is gone, if there is one.
     Delete { key: Bytes },

@@ -49,3 +49,8 @@ module _ (path : List ℕ) (at : ℕ) where
   pub fault_once : (s : Option Story) (fault : JournalFault) → WhereTold s (λ d. IsFaultOf at (d path) fault) → WhereTold s (λ d. (place : ℕ) → IsMalformed at place (d path) → IsNoOtherThan place fault)
   fault_once None fault says = tt
   fault_once (Some s) fault says = no_other (reads s) fault says
+
+-- a file holds one list of batches alone
+pub one_list : (at : ℕ) (a b : List (List Operation)) (file : Option (List ℕ)) → Has at a file → Has at b file → a ≡ b
+one_list at a b None one two = absurd one
+one_list at a b (Some file) one two = one_content at file a b one two

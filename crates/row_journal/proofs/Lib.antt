@@ -1,4 +1,3 @@
-pub mod Turning
 pub mod Bytes
 pub mod Steps
 pub mod Gated

@@ -16,7 +16,7 @@ use Rattle.row_batch.specs.Batches.{batch_bytes, frame}
 use Rattle.row_journal.specs.Contents.{IsSized, sized, gated, Holds, IsFrame}
 use Rattle.row_journal.specs.Value.{JournalValue, EndsAt, StandsSome}
 use Rattle.row_journal.specs.Append.{HasGate, Has, SameFront, Keeps, MayAppend, Staged}
-use Rattle.row_journal.proofs.Turning.{turns_same}
+use Rattle.disk_trait.proofs.Turning.{turns_same}
 use Rattle.row_journal.proofs.Bytes.{gated-push, each-push, frame_is, frame_size, torn_front, reaches, torn_behind, torn_byte, written_behind, written_byte}
 
 -- where something stands at a place, the place is in the file
@@ -244,6 +244,40 @@ gate_after path framed end place (Some s) (Some t) le gate turns =
       omega (arith, gate.2, le, length-append (take place file ++ framed) (drop (place + length framed) file), length-append (take place file) framed, length-take place file),
     )
 
+overlaid-long : (at : ℕ) (bytes old : List ℕ) → at ≤ length old → (at + length bytes ≤ length (overlaid at bytes old)) × (length old ≤ length (overlaid at bytes old))
+overlaid-long at bytes old le =
+    let a = length-append (take at old ++ bytes) (drop (at + length bytes) old) in
+    let b = length-append (take at old) bytes in
+    let c = length-take at old in
+    let d = length-drop (at + length bytes) old in
+    (omega (arith, a, b, c, d, le), omega (arith, a, b, c, d, le))
+
+-- a write behind the gate makes room for the next gate
+pub room_behind : (path framed : List ℕ) (end place : ℕ) (s t : Option Story) → place ≡ end + 1 → WhereTold s (HasGate path end) → Turns s t (λ old new. (q : List ℕ) → new q ≡ reads_after (wrote path place framed) old q) → WhereTold t (HasGate path (end + length framed))
+room_behind path framed end place None None is gate turns = tt
+room_behind path framed end place None (Some t) is gate turns = absurd turns
+room_behind path framed end place (Some s) None is gate turns = absurd turns
+room_behind path framed end place (Some s) (Some t) is gate turns =
+    let file = gate.0 in
+    let long = overlaid-long place framed file (omega (arith, gate.2, is)) in (
+      overlaid place framed file,
+      turns path ∙ update-here (reads s) path (option_map (overlaid place framed) (reads s path)) ∙ ap (option_map (overlaid place framed)) gate.1,
+      omega (arith, long.0, is),
+    )
+
+-- and a write in front of it leaves that
+pub room_stays : (path bytes : List ℕ) (at end : ℕ) (s t : Option Story) → at ≤ end → WhereTold s (HasGate path end) → Turns s t (λ old new. (q : List ℕ) → new q ≡ reads_after (wrote path at bytes) old q) → WhereTold t (HasGate path end)
+room_stays path bytes at end None None le gate turns = tt
+room_stays path bytes at end None (Some t) le gate turns = absurd turns
+room_stays path bytes at end (Some s) None le gate turns = absurd turns
+room_stays path bytes at end (Some s) (Some t) le gate turns =
+    let file = gate.0 in
+    let long = overlaid-long at bytes file (omega (arith, gate.2, le)) in (
+      overlaid at bytes file,
+      turns path ∙ update-here (reads s) path (option_map (overlaid at bytes) (reads s path)) ∙ ap (option_map (overlaid at bytes)) gate.1,
+      omega (arith, gate.2, long.1),
+    )
+
 -- where some batches stand, the file reaches its closed gate
 gate_of : (journal : JournalValue) (d : Directory) → StandsSome journal d → HasGate journal.path journal.end d
 gate_of journal d stands =
@@ -254,13 +288,14 @@ gate_of journal d stands =
     let size = front_size journal.at journal.end left.0 front holds.rest holds.gate holds.stands left.3 in
     (left.0, left.1, reaches (take journal.at left.0 ++ front) holds.rest left.0 holds.gate journal.end split size)
 
-told_gate : (s : Option Story) (journal : JournalValue) → WhereTold s (StandsSome journal) → WhereTold s (HasGate journal.path journal.end)
+pub told_gate : (s : Option Story) (journal : JournalValue) → WhereTold s (StandsSome journal) → WhereTold s (HasGate journal.path journal.end)
 told_gate None journal stands = tt
 told_gate (Some s) journal stands = gate_of journal (reads s) stands
 
-pub gate_there : (s : Option Story) (journal : JournalValue) (path : List ℕ) (end : ℕ) → path ≡ journal.path → end ≡ journal.end → WhereTold s (StandsSome journal) → WhereTold s (HasGate path end)
-gate_there s journal path end path_is end_is stands =
-    subst (λ (p : List ℕ). WhereTold s (HasGate p end)) (sym path_is) (subst (λ (k : ℕ). WhereTold s (HasGate journal.path k)) (sym end_is) (told_gate s journal stands))
+-- as the code has the path and the end
+pub gate_there : (s : Option Story) (journal : JournalValue) (path : List ℕ) (end : ℕ) → path ≡ journal.path → end ≡ journal.end → WhereTold s (HasGate journal.path journal.end) → WhereTold s (HasGate path end)
+gate_there s journal path end path_is end_is gate =
+    subst (λ (p : List ℕ). WhereTold s (HasGate p end)) (sym path_is) (subst (λ (k : ℕ). WhereTold s (HasGate journal.path k)) (sym end_is) gate)
 
 pub on_ok : {T E P : Type 0} (r : Result T E) → OnOk r P → is_err r ≡ false → P
 on_ok (Ok x) p fine = p

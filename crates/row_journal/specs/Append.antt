@@ -1,5 +1,5 @@
 -- What an append leaves of the file, and which calls it makes.
-use Rattle.std.specs.Prelude.{◌≡◌, ◌⊎◌, ℕ, ◌+◌, ◌≤◌, true, List, [], ◌∷◌, ◌++◌, length, take, drop, Option, Some, None}
+use Rattle.std.specs.Prelude.{◌≡◌, ◌⊎◌, ℕ, ◌+◌, ◌≤◌, List, [], ◌∷◌, ◌++◌, length, take, drop, Option, Some, None}
 use Rattle.std.specs.List.{AllByRecursion}
 use Rattle.disk_trait.specs.Change.{Directory}
 use Rattle.disk_trait.specs.Calls.{Rose, next_count}
@@ -80,8 +80,8 @@ HasCause Done before now = Unit {0}
 HasCause (Fault count) before now = (count ≡ now) × Rose before now
 HasCause (Unsure count) before now = (count ≡ now) × Rose before now
 
--- the journal after each answer to a frame of that length: its end moves on, or it is spent
+-- the journal after each answer to a frame of that length: its end moves on, or it keeps the number of the fault
 abbrev pub journal_after : Appended → ℕ → JournalValue → JournalValue
 journal_after Done size journal = record journal { end = journal.end + size }
-journal_after (Fault count) size journal = record journal { spent = true }
-journal_after (Unsure count) size journal = record journal { spent = true }
+journal_after (Fault count) size journal = record journal { fault = Some count }
+journal_after (Unsure count) size journal = record journal { fault = Some count }

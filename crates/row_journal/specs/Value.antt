@@ -1,15 +1,15 @@
 -- A journal as callers see it.
-use Rattle.std.specs.Prelude.{◌≡◌, ℕ, ◌+◌, Bool, List, length, Some}
+use Rattle.std.specs.Prelude.{◌≡◌, ℕ, ◌+◌, List, length, Option, Some}
 use Rattle.disk_trait.specs.Change.{Directory}
 use Rattle.row_batch.specs.declared.operation.Operation.{Operation}
 use Rattle.row_journal.specs.Contents.{gated, Holds}
 
--- a file, the place of its first gate, the place of its closed gate, and whether the journal has failed
+-- a file, the place of its first gate, the place of its closed gate, and the number of the fault of an append, if one failed
 pub record JournalValue : Type 0 where
   pub path : List ℕ
   pub at : ℕ
   pub end : ℕ
-  pub spent : Bool
+  pub fault : Option ℕ
 
 -- the file of a path has these batches from a place on, and its closed gate at another
 abbrev pub EndsAt : List ℕ → ℕ → ℕ → List (List Operation) → Directory → Type 0

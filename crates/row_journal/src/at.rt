@@ -11,8 +11,7 @@ ghost use Rattle.row_journal.specs.Append.{HasGate, Staged, Keeps, MayAppend, Is
 
 use crate::Appended;
 use crate::gate::OPEN;
-use crate::through::write_synced;
-use disk_trait::{Disk, Failed};
+use disk_trait::{Disk, Failed, write_through};
 
 /// Writes a framed batch behind the closed gate at `end`, and syncs the file. The gate stays closed.
 fn stage<D: Disk>(disk: &mut D, path: &str, end: u64, framed: &[u8]) -> Result<(), Failed>
@@ -26,7 +25,9 @@ fn stage<D: Disk>(disk: &mut D, path: &str, end: u64, framed: &[u8]) -> Result<(
         → WhereTold (D.story disk.old) (EndsAt path.now at end batches) → WhereTold (D.story disk.new) (Staged path.now at end batches batch)) }
     ensures settled { OnOk result (IsSettled path.now (D.story disk.new)) }
     ensures gate { OnOk result (WhereTold (D.story disk.new) (HasRoom path.now end)) }
+    ensures room { OnOk result (WhereTold (D.story disk.new) (HasGate path.now (end + length framed.now))) }
     ensures within { OnOk result (end + 1 + length framed.now < 2 ^ 64) }
+    ensures onward { D.moment_of disk.old ≤ D.moment_of disk.new }
     ensures two_calls { OnOk result (D.moment_of disk.new ≡ D.moment_of disk.old + 2) }
     ensures some_calls { OnErr result (next_count (D.moment_of disk.old) ≤ D.moment_of disk.new) }
     ensures no_more_calls { D.moment_of disk.new ≤ D.moment_of disk.old + 2 }
@@ -34,7 +35,7 @@ fn stage<D: Disk>(disk: &mut D, path: &str, end: u64, framed: &[u8]) -> Result<(
     ensures cause { OnErr result (Rose (D.faults_of disk.old) (D.faults_of disk.new)) }
 {
     let place = end.saturating_add(1);
-    write_synced(disk, path, place, framed)
+    write_through(disk, path, place, framed)
 }
 
 /// Writes a framed batch behind the closed gate at `end`, and opens the gate once the batch is on the disk.
@@ -46,6 +47,7 @@ pub fn append_at<D: Disk>(disk: &mut D, path: &str, end: u64, framed: &[u8]) -> 
         → WhereTold (D.story disk.old) (EndsAt path.now at end batches)
         → WhereTold (D.story disk.new) (EndsAt path.now at (end + length framed.now) (batches ++ batch ∷ [])) }
     ensures settled { IsDone result → IsSettled path.now (D.story disk.new) }
+    ensures room { IsDone result → WhereTold (D.story disk.new) (HasGate path.now (end + length framed.now)) }
     ensures reads { (at : ℕ) (batches : List (List Operation)) (batch : List Operation) → IsFrame batch framed.now
         → WhereTold (D.story disk.old) (EndsAt path.now at end batches)
         → Turns (D.story disk.old) (D.story disk.new) (ReadsAs result path.now at batches batch) }
@@ -54,14 +56,15 @@ pub fn append_at<D: Disk>(disk: &mut D, path: &str, end: u64, framed: &[u8]) -> 
     ensures any_moment { (at : ℕ) (batches : List (List Operation)) (batch : List Operation) → IsFrame batch framed.now
         → WhereTold (D.story disk.old) (EndsAt path.now at end batches) → IsSettled path.now (D.story disk.old)
         → Carries (MayAppend path.now at batches batch) (D.moment_of disk.old) (D.moment_of disk.new) (D.story disk.old) (D.story disk.new) }
-    // Once it is done each crash leaves the new one, and after a fault none does.
+    // Once it is done each crash leaves the new one. Where it is a fault, none at any moment did.
     ensures done { (at : ℕ) (batches : List (List Operation)) (batch : List Operation) → IsFrame batch framed.now → IsDone result
         → WhereTold (D.story disk.old) (EndsAt path.now at end batches) → IsSettled path.now (D.story disk.old)
         → (image : Directory) → Images (D.story disk.new) image → Comes (Keeps path.now at (batches ++ batch ∷ [])) (D.story disk.old) image }
     ensures fault { (at : ℕ) (batches : List (List Operation)) → IsFault result
         → WhereTold (D.story disk.old) (EndsAt path.now at end batches) → IsSettled path.now (D.story disk.old)
-        → (image : Directory) → Images (D.story disk.new) image → Comes (Keeps path.now at batches) (D.story disk.old) image }
+        → Carries (Keeps path.now at batches) (D.moment_of disk.old) (D.moment_of disk.new) (D.story disk.old) (D.story disk.new) }
 
+    ensures onward { D.moment_of disk.old ≤ D.moment_of disk.new }
     ensures calls { Calls result (D.moment_of disk.old) (D.moment_of disk.new) }
     ensures later { D.faults_of disk.old ≤ D.faults_of disk.new }
     ensures cause { HasCause result (D.faults_of disk.old) (D.faults_of disk.new) }
@@ -72,7 +75,7 @@ pub fn append_at<D: Disk>(disk: &mut D, path: &str, end: u64, framed: &[u8]) -> 
             count: disk.faults(),
         };
     }
-    if write_synced(disk, path, end, &[OPEN]).is_err() {
+    if write_through(disk, path, end, &[OPEN]).is_err() {
         return Appended::Unsure {
             count: disk.faults(),
         };

@@ -7,9 +7,6 @@ mod journal;
 mod opening;
 mod outcome;
 mod reading;
-#[cfg(test)]
-mod tests;
-mod through;
 
 pub use journal::Journal;
 pub use opening::{Opened, open_journal};

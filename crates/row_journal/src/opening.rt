@@ -1,5 +1,5 @@
 // A journal is opened by reading its file.
-ghost use Rattle.std.specs.Prelude.{◌≡◌, ◌≤◌, ◌<◌, ◌+◌, ◌^◌, false, List, [], ℕ, length, drop, IfOk, IfErr, MatchResult};
+ghost use Rattle.std.specs.Prelude.{◌≡◌, ◌≤◌, ◌<◌, ◌+◌, ◌^◌, None, List, [], ℕ, length, drop, IfOk, IfErr, MatchResult};
 ghost use Rattle.std.specs.Option.{unwrap_or};
 ghost use Rattle.disk_trait.specs.Story.{WhereTold};
 ghost use Rattle.row_batch.specs.declared.operation.Operation.{Operation};
@@ -15,7 +15,7 @@ use row_batch::Batch;
 use std::alloc::Global;
 
 /// A journal that was opened, and the batches that its file holds, in their order.
-#[derive(Debug, Drop)]
+#[derive(Drop)]
 pub struct Opened {
     pub journal: Journal,
     pub batches: Vec<Batch>,
@@ -109,7 +109,7 @@ pub fn open_journal<D: Disk>(
     ensures same { D.story disk.new ≡ D.story disk.old }
     // The file holds the batches that are answered, up to the journal's end.
     ensures stands { IfOk result (λ opened. WhereTold (D.story disk.old) (Stands opened.journal (operations_of opened.batches.items))) }
-    ensures journal { IfOk result (λ opened. opened.journal ≡ record { path = path.now; at = at; end = at + length (gated (operations_of opened.batches.items)); spent = false }) }
+    ensures journal { IfOk result (λ opened. opened.journal ≡ record { path = path.now; at = at; end = at + length (gated (operations_of opened.batches.items)); fault = None }) }
     ensures malformed { IfErr result (λ fault. WhereTold (D.story disk.old) (λ d. IsFaultOf at (d path.now) fault)) }
     // A file that holds batches opens with just these, and one with a fault is refused at no other place.
     ensures found { WhereTold (D.story disk.old) (λ d. (batches : List (List Operation)) → Has at batches (d path.now)

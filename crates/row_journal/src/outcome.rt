@@ -3,7 +3,7 @@ ghost use Rattle.row_journal.specs.declared.outcome.JournalFault.TheVariants.{Me
 
 use std::alloc::{AllocError, AllocFailed};
 
-/// What an append has come to. After `Fault` and `Unsure` the journal is spent.
+/// What an append has come to. After `Fault` and `Unsure` the journal is spent, and keeps the count.
 #[derive(Clone, Copy, Debug, PartialEq, Eq)]
 pub enum Appended {
     /// The batch is in the file, and each crash leaves it there.

@@ -10,7 +10,7 @@ use row_batch::{Batch, BatchFault};
 use std::alloc::Global;
 
 /// The batches of a journal, and the place of the closed gate behind them.
-#[derive(Debug, Drop)]
+#[derive(Drop)]
 pub struct Contents {
     pub batches: Vec<Batch>,
     pub end: u64,

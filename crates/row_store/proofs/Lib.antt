@@ -7,3 +7,4 @@ pub mod Rest
 pub mod Pieces
 pub mod Made
 pub mod Standing
+pub mod OnDisk

@@ -3,7 +3,7 @@ use Rattle.std.proofs.Common.{◌≡◌, inl, inr, ℕ, ◌+◌, Bool, true, fal
 use Rattle.std.specs.Option.{option_map, unwrap_or}
 use Rattle.std.proofs.Math.Seq.{drop-nil}
 use Rattle.std.proofs.lemmas.List.{append-nil}
-use Rattle.disk_trait.specs.Change.{Step, made, wrote, overlaid}
+use Rattle.disk_trait.specs.Change.{Step, made, wrote, overlaid, reads_after}
 use Rattle.disk_trait.specs.Crash.{Event, did, failed}
 use Rattle.disk_trait.specs.Story.{Story, WhereTold, reads, happened}
 use Rattle.disk_trait.specs.Calls.{Acts, Undecided, HasRoom}
@@ -53,18 +53,17 @@ pub room_at_front : (s : Option Story) (path : List ℕ) → WhereTold s (λ d. 
 room_at_front None path there = tt
 room_at_front (Some s) path there = ([], there, omega arith)
 
-written : (s : Option Story) (moment : ℕ) (path bytes : List ℕ) → WhereTold s (λ d. d path ≡ Some []) → Turns s (happened moment (did (wrote path 0 bytes)) s) (IsMade path bytes)
-written None moment path bytes there = tt
-written (Some s) moment path bytes there = record {
-  off = λ q apart. update-off (reads s) path (option_map (overlaid 0 bytes) (reads s path)) q apart;
-  file = update-here (reads s) path (option_map (overlaid 0 bytes) (reads s path)) ∙ ap (option_map (overlaid 0 bytes)) there ∙ ap Some (alone bytes);
+pub is_written : (s t : Option Story) (path bytes : List ℕ) → WhereTold s (λ d. d path ≡ Some []) → Turns s t (λ old new. (q : List ℕ) → new q ≡ reads_after (wrote path 0 bytes) old q) → Turns s t (IsMade path bytes)
+is_written None None path bytes there turns = tt
+is_written None (Some t) path bytes there turns = absurd turns
+is_written (Some s) None path bytes there turns = absurd turns
+is_written (Some s) (Some t) path bytes there turns = record {
+  off = λ q apart. turns q ∙ update-off (reads s) path (option_map (overlaid 0 bytes) (reads s path)) q apart;
+  file = turns path ∙ update-here (reads s) path (option_map (overlaid 0 bytes) (reads s path)) ∙ ap (option_map (overlaid 0 bytes)) there ∙ ap Some (alone bytes);
 }
   where
     alone : (bytes : List ℕ) → overlaid 0 bytes [] ≡ bytes
     alone bytes = ap (λ (l : List ℕ). bytes ++ l) (drop-nil (0 + length bytes)) ∙ append-nil bytes
-
-pub is_written : (before : ℕ) (old new : Option Story) (path bytes : List ℕ) → WhereTold old (λ d. d path ≡ Some []) → new ≡ happened (before + 1) (did (wrote path 0 bytes)) old → Turns old new (IsMade path bytes)
-is_written before old new path bytes there is = subst (λ (t : Option Story). Turns old t (IsMade path bytes)) (sym is) (written old (before + 1) path bytes there)
 
 pub wrote_off : (old new : Option Story) (path : List ℕ) (step : Step) → Turns old new (Wrote path step) → Turns old new (Off path)
 wrote_off None None path step turns = tt
@@ -82,14 +81,14 @@ made_there (Some s) (Some t) path bytes turns = turns.file
 
 -- ---- what such a file is
 
-holds_none : Holds 64 [] empty_file
+pub holds_none : Holds 64 [] empty_file
 holds_none = record { each = tt; gate = 0; rest = []; stands = refl; closed = λ e. cc }
 
 pub stands_empty : (s : Option Story) (path : List ℕ) → WhereTold s (λ d. d path ≡ Some empty_file) → WhereTold s (EndsAt path 64 64 [])
 stands_empty None path there = tt
 stands_empty (Some s) path there = (empty_file, there, holds_none, refl)
 
-pub stands_made : (old new : Option Story) (journal : JournalValue) (text path : List ℕ) → journal ≡ record { path = text; at = 64; end = 64; spent = false } → text ≡ path → Turns old new (IsMade path empty_file) → WhereTold new (Stands journal [])
+pub stands_made : (old new : Option Story) (journal : JournalValue) (text path : List ℕ) → journal ≡ record { path = text; at = 64; end = 64; fault = None } → text ≡ path → Turns old new (IsMade path empty_file) → WhereTold new (Stands journal [])
 stands_made old new journal text path is same turns =
-    let journal_is : journal ≡ record { path = path; at = 64; end = 64; spent = false } = is ∙ ap (λ (p : List ℕ). record { path = p; at = 64; end = 64; spent = false }) same in
+    let journal_is : journal ≡ record { path = path; at = 64; end = 64; fault = None } = is ∙ ap (λ (p : List ℕ). record { path = p; at = 64; end = 64; fault = None }) same in
     subst (λ (j : JournalValue). WhereTold new (Stands j [])) (sym journal_is) (stands_empty new path (made_there old new path empty_file turns))

@@ -11,13 +11,6 @@ pub stands_some : (story : Option Story) (journal : JournalValue) (batches : Lis
 stands_some None journal batches stands = tt
 stands_some (Some s) journal batches stands = (batches, stands)
 
--- and with one batch more
-pub stands_on : (old new : Option Story) (before after : JournalValue) (batch : List Operation) → WhereTold old (StandsSome before)
-    → ((batches : List (List Operation)) → WhereTold old (Stands before batches) → WhereTold new (Stands after (batches ++ batch ∷ []))) → WhereTold new (StandsSome after)
-stands_on old None before after batch some on = tt
-stands_on None (Some t) before after batch some on = (batch ∷ [], on [] tt)
-stands_on (Some s) (Some t) before after batch some on = (some.0 ++ batch ∷ [], on some.0 some.1)
-
 -- the rows that the batches make
 pub rows_pushed : (batches : List (List Operation)) (batch : List Operation) (old new : Rows) → new ≡ applied batch old → old ≡ rows_after batches no_rows → new ≡ rows_after (batches ++ batch ∷ []) no_rows
 rows_pushed batches batch old new done made = done ∙ ap (applied batch) made ∙ sym (rows_after-push batches batch no_rows)

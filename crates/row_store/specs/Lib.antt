@@ -7,3 +7,4 @@ pub mod Coding
 pub mod Place
 pub mod Answer
 pub mod Making
+pub mod OnDisk

@@ -1,5 +1,5 @@
 // How a system file begins.
-ghost use Rattle.std.specs.Prelude.{◌≡◌, ◌≤◌, ◌↔◌, IsTrue, List, [], length, take, drop, OnErr, IfErr};
+ghost use Rattle.std.specs.Prelude.{◌≡◌, ◌≤◌, ◌+◌, ◌↔◌, IsTrue, List, [], length, take, drop, OnErr, IfErr};
 ghost use Rattle.std.specs.Int.{w32, from_be_bytes};
 ghost use Rattle.disk_trait.specs.Story.{WhereTold};
 ghost use Rattle.row_store.specs.Header.{head_of, magic, header};
@@ -27,6 +27,8 @@ pub const HEADER: [u8; 64] = [
 pub fn check<D: Disk>(disk: &mut D, path: &str) -> Result<(), RowsRefused>
     ensures same { D.story disk.new ≡ D.story disk.old }
     ensures judged { WhereTold (D.story disk.old) (λ d. IsCheckOf result (head_of (d path.now))) }
+    ensures onward { D.moment_of disk.old ≤ D.moment_of disk.new }
+    ensures calls { D.moment_of disk.new ≤ D.moment_of disk.old + 1 }
     ensures later { D.faults_of disk.old ≤ D.faults_of disk.new }
     ensures count { IfErr result (λ refused. HasCount refused (D.faults_of disk.old) (D.faults_of disk.new)) }
 {

@@ -7,7 +7,7 @@ ghost use Rattle.row_store.specs.Header.{empty_file};
 ghost use Rattle.row_store.specs.Making.{IsMade};
 
 use crate::header::HEADER;
-use disk_trait::{Disk, Failed};
+use disk_trait::{Disk, Failed, write_through};
 
 /// Makes an empty file on a path that is free.
 fn create_empty<D: Disk>(disk: &mut D, path: &str) -> Result<(), Failed>
@@ -15,6 +15,7 @@ fn create_empty<D: Disk>(disk: &mut D, path: &str) -> Result<(), Failed>
     ensures reads { OnOk result (Turns (D.story disk.old) (D.story disk.new) (IsMade path.now [])) }
     ensures off { Turns (D.story disk.old) (D.story disk.new) (Off path.now) }
     ensures carries { Carries (Off path.now) (D.moment_of disk.old) (D.moment_of disk.new) (D.story disk.old) (D.story disk.new) }
+    ensures onward { D.moment_of disk.old ≤ D.moment_of disk.new }
     ensures calls { D.moment_of disk.new ≤ D.moment_of disk.old + 1 }
     ensures later { D.faults_of disk.old ≤ D.faults_of disk.new }
     ensures cause { OnErr result (Rose (D.faults_of disk.old) (D.faults_of disk.new)) }
@@ -32,17 +33,12 @@ fn fill<D: Disk>(disk: &mut D, path: &str, bytes: &[u8]) -> Result<(), Failed>
     ensures off { Turns (D.story disk.old) (D.story disk.new) (Off path.now) }
     ensures carries { Carries (Off path.now) (D.moment_of disk.old) (D.moment_of disk.new) (D.story disk.old) (D.story disk.new) }
     ensures settled { OnOk result (IsSettled path.now (D.story disk.new)) }
+    ensures onward { D.moment_of disk.old ≤ D.moment_of disk.new }
     ensures calls { D.moment_of disk.new ≤ D.moment_of disk.old + 2 }
     ensures later { D.faults_of disk.old ≤ D.faults_of disk.new }
     ensures cause { OnErr result (Rose (D.faults_of disk.old) (D.faults_of disk.new)) }
 {
-    if disk.write_at(path, 0, bytes).is_err() {
-        return Err(Failed);
-    }
-    if disk.sync(path).is_err() {
-        return Err(Failed);
-    }
-    Ok(())
+    write_through(disk, path, 0, bytes)
 }
 
 /// The header, and a closed gate.
@@ -61,6 +57,7 @@ pub fn make_empty<D: Disk>(disk: &mut D, path: &str) -> Result<(), Failed>
     ensures off { Turns (D.story disk.old) (D.story disk.new) (Off path.now) }
     ensures carries { Carries (Off path.now) (D.moment_of disk.old) (D.moment_of disk.new) (D.story disk.old) (D.story disk.new) }
     ensures settled { OnOk result (IsSettled path.now (D.story disk.new)) }
+    ensures onward { D.moment_of disk.old ≤ D.moment_of disk.new }
     ensures calls { D.moment_of disk.new ≤ D.moment_of disk.old + 3 }
     ensures later { D.faults_of disk.old ≤ D.faults_of disk.new }
     ensures cause { OnErr result (Rose (D.faults_of disk.old) (D.faults_of disk.new)) }

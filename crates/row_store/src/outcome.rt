@@ -1,4 +1,4 @@
-/// What a commit has come to. After `Fault` and `Unsure` the journal is spent: open the file again.
+/// What a commit has come to. After `Fault` and `Unsure` the store keeps the count and takes no more batches: open the file again.
 #[derive(Clone, Copy, Debug, PartialEq, Eq)]
 pub enum Committed {
     /// The batch is in the file, each crash leaves it there, and the rows have it.

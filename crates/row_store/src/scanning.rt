@@ -11,14 +11,14 @@ const PIECE: usize = 64;
 
 /// A scan of the rows under a prefix, in key order. It keeps its place by the last key that it gave, so a row that comes or
 /// goes behind that place is seen as it then is. Contracts see the prefix and that key.
-#[derive(Debug, Drop)]
+#[derive(Drop)]
 pub struct Scan {
     prefix: Bytes,
     last: Option<Bytes>,
 }
 
 /// What a scan has come to.
-#[derive(Debug, Drop)]
+#[derive(Drop)]
 pub enum Scanned {
     /// Copies of the next rows, keys and values in key order; at least one and at most 64.
     Rows(Vec<(Bytes, Bytes)>),

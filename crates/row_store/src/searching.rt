@@ -6,13 +6,13 @@ use std::alloc::{AllocError, Global};
 use std::marker::Model;
 
 /// A search for the value under a key, which contracts see as the key.
-#[derive(Debug, Drop)]
+#[derive(Drop)]
 pub struct Search {
     key: Bytes,
 }
 
 /// What a search has come to.
-#[derive(Debug, Drop)]
+#[derive(Drop)]
 pub enum Got {
     /// A copy of the value under the key.
     Value(Bytes),

@@ -1,18 +1,19 @@
-ghost use Rattle.std.specs.Prelude.{◌≡◌, ◌<◌, ◌≤◌, ◌+◌, ◌^◌, List, [], ◌∷◌, ◌++◌, ℕ, length, true, false, None, IfOk, IfErr, MatchResult};
+ghost use Rattle.std.specs.Prelude.{◌≡◌, ◌<◌, ◌≤◌, ◌+◌, ◌^◌, List, [], ◌∷◌, ◌++◌, ℕ, length, true, None, IfOk, IfErr, MatchResult};
 ghost use Rattle.disk_trait.specs.Change.{Directory};
 ghost use Rattle.disk_trait.specs.Story.{WhereTold, Images};
 ghost use Rattle.disk_trait.specs.Carried.{Comes, Carries, Turns, Off, IsSettled};
 ghost use Rattle.row_batch.specs.declared.operation.Operation.{Operation};
 ghost use Rattle.row_batch.specs.Batches.{frame};
-ghost use Rattle.row_batch.specs.Rows.{no_rows};
+ghost use Rattle.row_batch.specs.Rows.{Rows, applied, no_rows};
 ghost use Rattle.row_journal.specs.Value.{Stands, StandsSome};
-ghost use Rattle.row_journal.specs.Append.{Keeps, MayAppend, IsDone, IsFault, ReadsAs, Calls, HasCause, journal_after};
+ghost use Rattle.row_journal.specs.Append.{HasGate, Keeps, MayAppend, IsDone, IsFault, ReadsAs, Calls, HasCause, journal_after};
 ghost use Rattle.row_store.specs.Header.{IsNewer, empty_file};
 ghost use Rattle.row_store.specs.Making.{IsMade, HasFaultCount};
 ghost use Rattle.row_store.specs.Value.{rows_after, IsRowsFile};
 ghost use Rattle.row_store.specs.Place.{rows_left};
 ghost use Rattle.row_store.specs.Answer.{IsGot, IsKept, IsScanned, IsMemory};
 ghost use Rattle.row_store.specs.Outcome.{Through, WithoutMemory, rows_committed};
+ghost use Rattle.row_store.specs.OnDisk.{HasRows, KeepsRows, MayHaveRows, ReadsRows, IsOnDisk};
 ghost use Rattle.row_store.specs.Opening.{Opens, IsOutside, IsVersionOrOutside, IsRefusalOf, HasCount};
 
 use crate::outcome::{Committed, RowFault, RowsRefused};
@@ -30,7 +31,7 @@ const FIRST_GATE: u64 = 64;
 
 /// Rows under keys, in key order, and the journal of the batches that made them from no rows. Contracts see the journal and
 /// the rows as a map.
-#[derive(Debug, Drop)]
+#[derive(Drop)]
 pub struct RowStore {
     journal: Journal,
     rows: Vec<(Bytes, Bytes)>,
@@ -60,7 +61,7 @@ impl RowStore {
         path: &str,
     ) -> Result<RowStore, RowsRefused>
         ensures same { D.story disk.new ≡ D.story disk.old }
-        ensures journal { IfOk result (λ store. (store.journal.path ≡ path.now) × (store.journal.at ≡ 64) × (store.journal.spent ≡ false)) }
+        ensures journal { IfOk result (λ store. (store.journal.path ≡ path.now) × (store.journal.at ≡ 64) × (store.journal.fault ≡ None)) }
         // What is opened is a system file, of whose batches these are the rows.
         ensures found { IfOk result (λ store. WhereTold (D.story disk.old) (Opens store.journal store.rows)) }
         // A system file opens with just the rows of its batches, and one of a later version with none.
@@ -69,7 +70,14 @@ impl RowStore {
         ensures newer { WhereTold (D.story disk.old) (λ d. (number : ℕ) → IsNewer number (d path.now)
             → MatchResult result (λ _. ⊥) (λ refused. IsVersionOrOutside number refused)) }
         ensures stands { IfOk result (λ store. WhereTold (D.story disk.new) (StandsSome store.journal)) }
+        ensures room { IfOk result (λ store. WhereTold (D.story disk.new) (HasGate store.journal.path store.journal.end)) }
         ensures refused { IfErr result (λ refused. WhereTold (D.story disk.old) (λ d. IsRefusalOf (d path.now) refused)) }
+        // In words of rows: a system file opens with its rows alone, and where each crash leaves the file as it reads, the store
+        // is on the disk.
+        ensures only_rows { WhereTold (D.story disk.old) (λ d. (rows : Rows) → HasRows rows (d path.now) → MatchResult result (λ store. store.rows ≡ rows) (λ refused. IsOutside refused)) }
+        ensures on_disk { IfOk result (λ store. IsSettled path.now (D.story disk.old) → IsOnDisk (D.story disk.new) store) }
+        ensures onward { D.moment_of disk.old ≤ D.moment_of disk.new }
+        ensures calls { D.moment_of disk.new ≤ D.moment_of disk.old + 3 }
         ensures later { D.faults_of disk.old ≤ D.faults_of disk.new }
         ensures count { IfErr result (λ refused. HasCount refused (D.faults_of disk.old) (D.faults_of disk.new)) }
     {
@@ -89,18 +97,20 @@ impl RowStore {
     /// After a fault there may be a file at the path that isn't a system file.
     pub fn make_rows<D: Disk>(alloc: Global, disk: &mut D, path: &str) -> Result<RowStore, RowFault>
         requires free { WhereTold (D.story disk.old) (λ d. d path.now ≡ None) }
-        ensures journal { IfOk result (λ store. store.journal ≡ record { path = path.now; at = 64; end = 64; spent = false }) }
+        ensures journal { IfOk result (λ store. store.journal ≡ record { path = path.now; at = 64; end = 64; fault = None }) }
         ensures rows { IfOk result (λ store. store.rows ≡ no_rows) }
         // The file is one without batches, which each crash leaves as it reads, and nothing else changed.
         ensures reads { IfOk result (λ _. Turns (D.story disk.old) (D.story disk.new) (IsMade path.now empty_file)) }
         ensures file { IfOk result (λ _. WhereTold (D.story disk.new) (λ d. IsRowsFile [] (d path.now))) }
         ensures stands { IfOk result (λ store. WhereTold (D.story disk.new) (Stands store.journal [])) }
-        ensures stands_some { IfOk result (λ store. WhereTold (D.story disk.new) (StandsSome store.journal)) }
+        ensures room { IfOk result (λ store. WhereTold (D.story disk.new) (HasGate store.journal.path store.journal.end)) }
         ensures settled { IfOk result (λ _. IsSettled path.now (D.story disk.new)) }
+        ensures on_disk { IfOk result (λ store. IsOnDisk (D.story disk.new) store) }
         // Whatever it answers, no other file changed, neither as it reads nor as a crash leaves it.
         ensures off { Turns (D.story disk.old) (D.story disk.new) (Off path.now) }
         ensures carries { Carries (Off path.now) (D.moment_of disk.old) (D.moment_of disk.new) (D.story disk.old) (D.story disk.new) }
         ensures memory { IfErr result (λ fault. IsMemory fault → disk.new ≡ disk.old) }
+        ensures onward { D.moment_of disk.old ≤ D.moment_of disk.new }
         ensures calls { D.moment_of disk.new ≤ D.moment_of disk.old + 3 }
         ensures later { D.faults_of disk.old ≤ D.faults_of disk.new }
         ensures count { IfErr result (λ fault. HasFaultCount fault (D.faults_of disk.old) (D.faults_of disk.new)) }
@@ -122,8 +132,8 @@ impl RowStore {
     /// Adds a framed batch to the journal, and then to the rows. Memory is taken before the file is touched.
     pub fn commit<D: Disk>(&mut self, disk: &mut D, batch: &Batch) -> Committed
         requires framed { batch.now.is_framed ≡ true }
-        requires fresh { self.old.journal.spent ≡ false }
-        requires stands { WhereTold (D.story disk.old) (StandsSome self.old.journal) }
+        requires fresh { self.old.journal.fault ≡ None }
+        requires room { WhereTold (D.story disk.old) (HasGate self.old.journal.path self.old.journal.end) }
 
         // The rows have the batch where it is done, so they stay those that the journal's batches make.
         ensures rows { self.new.rows ≡ rows_committed result batch.now.operations self.old.rows }
@@ -134,7 +144,7 @@ impl RowStore {
         // What the disk reads then, and that a crash leaves it so once it is done.
         ensures stands { Through result (λ appended. IsDone appended → (batches : List (List Operation))
             → WhereTold (D.story disk.old) (Stands self.old.journal batches) → WhereTold (D.story disk.new) (Stands self.new.journal (batches ++ batch.now.operations ∷ []))) }
-        ensures stands_some { Through result (λ appended. IsDone appended → WhereTold (D.story disk.new) (StandsSome self.new.journal)) }
+        ensures room { Through result (λ appended. IsDone appended → WhereTold (D.story disk.new) (HasGate self.new.journal.path self.new.journal.end)) }
         ensures settled { Through result (λ appended. IsDone appended → IsSettled self.old.journal.path (D.story disk.new)) }
         ensures reads { Through result (λ appended. (batches : List (List Operation)) → WhereTold (D.story disk.old) (Stands self.old.journal batches)
             → Turns (D.story disk.old) (D.story disk.new) (ReadsAs appended self.old.journal.path self.old.journal.at batches batch.now.operations)) }
@@ -146,31 +156,33 @@ impl RowStore {
         ensures done { Through result (λ appended. IsDone appended → (batches : List (List Operation)) → WhereTold (D.story disk.old) (Stands self.old.journal batches) → IsSettled self.old.journal.path (D.story disk.old)
             → (image : Directory) → Images (D.story disk.new) image → Comes (Keeps self.old.journal.path self.old.journal.at (batches ++ batch.now.operations ∷ [])) (D.story disk.old) image) }
         ensures fault { Through result (λ appended. IsFault appended → (batches : List (List Operation)) → WhereTold (D.story disk.old) (Stands self.old.journal batches) → IsSettled self.old.journal.path (D.story disk.old)
-            → (image : Directory) → Images (D.story disk.new) image → Comes (Keeps self.old.journal.path self.old.journal.at batches) (D.story disk.old) image) }
+            → Carries (Keeps self.old.journal.path self.old.journal.at batches) (D.moment_of disk.old) (D.moment_of disk.new) (D.story disk.old) (D.story disk.new)) }
 
+        // In words of rows: where the store is on the disk, a crash in the call and from then on leaves the rows of before or those
+        // with the batch; after a fault, those of before. Once it is done the store is on the disk with the batch.
+        ensures rows_at_each_moment { IsOnDisk (D.story disk.old) self.old
+            → Carries (MayHaveRows self.old.journal.path self.old.rows (applied batch.now.operations self.old.rows)) (D.moment_of disk.old) (D.moment_of disk.new) (D.story disk.old) (D.story disk.new) }
+        ensures rows_after_fault { Through result (λ appended. IsFault appended → IsOnDisk (D.story disk.old) self.old
+            → Carries (KeepsRows self.old.journal.path self.old.rows) (D.moment_of disk.old) (D.moment_of disk.new) (D.story disk.old) (D.story disk.new)) }
+        ensures rows_read { Through result (λ appended. IsOnDisk (D.story disk.old) self.old
+            → Turns (D.story disk.old) (D.story disk.new) (ReadsRows appended self.old.journal.path self.old.rows (applied batch.now.operations self.old.rows))) }
+        ensures on_disk { Through result (λ appended. IsDone appended → IsOnDisk (D.story disk.old) self.old → IsOnDisk (D.story disk.new) self.new) }
+
+        // The moment doesn't fall, whatever it answers.
+        ensures onward { D.moment_of disk.old ≤ D.moment_of disk.new }
         ensures calls { Through result (λ appended. Calls appended (D.moment_of disk.old) (D.moment_of disk.new)) }
         ensures later { D.faults_of disk.old ≤ D.faults_of disk.new }
         ensures cause { Through result (λ appended. HasCause appended (D.faults_of disk.old) (D.faults_of disk.new)) }
     {
-        let alloc = *self.rows.allocator();
-        let Ok(operations) = entries::prepare(alloc, &mut self.rows, batch.operations()) else {
-            return Committed::Memory;
-        };
-        match self.journal.append(disk, batch.framed()) {
-            Appended::Done => {
-                entries::apply_all(&mut self.rows, operations);
-                Committed::Done
-            }
-            Appended::Fault { count } => Committed::Fault { count },
-            Appended::Unsure { count } => Committed::Unsure { count },
-        }
+        self.commit_batch(disk, batch)
     }
 
-    /// Whether a commit has failed. Such a store takes no more batches: open the file again.
-    pub fn is_spent(&self) -> bool
-        ensures { result ≡ self.now.journal.spent }
+    /// The disk's count of faults at the commit that failed; None while none has. A store with such a fault takes no more
+    /// batches: open the file again.
+    pub fn fault(&self) -> Option<u64>
+        ensures { result ≡ self.now.journal.fault }
     {
-        self.journal.is_spent()
+        self.journal.fault()
     }
 
     /// The value under the key of a search. While the rows are in memory the disk isn't called, the answer comes at once, and
@@ -198,5 +210,54 @@ impl RowStore {
     {
         let alloc = *self.rows.allocator();
         giving::next_rows(alloc, &self.rows, scan)
+    }
+
+    /// A commit, in words of the journal and its batches.
+    fn commit_batch<D: Disk>(&mut self, disk: &mut D, batch: &Batch) -> Committed
+        requires framed { batch.now.is_framed ≡ true }
+        requires fresh { self.old.journal.fault ≡ None }
+        requires room { WhereTold (D.story disk.old) (HasGate self.old.journal.path self.old.journal.end) }
+
+        // The rows have the batch where it is done, so they stay those that the journal's batches make.
+        ensures rows { self.new.rows ≡ rows_committed result batch.now.operations self.old.rows }
+        ensures made { Through result (λ appended. IsDone appended → (batches : List (List Operation)) → self.old.rows ≡ rows_after batches no_rows → self.new.rows ≡ rows_after (batches ++ batch.now.operations ∷ []) no_rows) }
+        ensures journal { Through result (λ appended. self.new.journal ≡ journal_after appended (length (frame batch.now.operations)) self.old.journal) }
+        ensures memory { WithoutMemory result ((self.new ≡ self.old) × (disk.new ≡ disk.old)) }
+
+        // What the disk reads then, and that a crash leaves it so once it is done.
+        ensures stands { Through result (λ appended. IsDone appended → (batches : List (List Operation))
+            → WhereTold (D.story disk.old) (Stands self.old.journal batches) → WhereTold (D.story disk.new) (Stands self.new.journal (batches ++ batch.now.operations ∷ []))) }
+        ensures room { Through result (λ appended. IsDone appended → WhereTold (D.story disk.new) (HasGate self.new.journal.path self.new.journal.end)) }
+        ensures settled { Through result (λ appended. IsDone appended → IsSettled self.old.journal.path (D.story disk.new)) }
+        ensures reads { Through result (λ appended. (batches : List (List Operation)) → WhereTold (D.story disk.old) (Stands self.old.journal batches)
+            → Turns (D.story disk.old) (D.story disk.new) (ReadsAs appended self.old.journal.path self.old.journal.at batches batch.now.operations)) }
+
+        // Where each crash left the file as it read, a crash in the call and from then on leaves the batches with the new one
+        // or without. Once it is done each crash leaves the new one, and after a fault none does.
+        ensures any_moment { Through result (λ appended. (batches : List (List Operation)) → WhereTold (D.story disk.old) (Stands self.old.journal batches) → IsSettled self.old.journal.path (D.story disk.old)
+            → Carries (MayAppend self.old.journal.path self.old.journal.at batches batch.now.operations) (D.moment_of disk.old) (D.moment_of disk.new) (D.story disk.old) (D.story disk.new)) }
+        ensures done { Through result (λ appended. IsDone appended → (batches : List (List Operation)) → WhereTold (D.story disk.old) (Stands self.old.journal batches) → IsSettled self.old.journal.path (D.story disk.old)
+            → (image : Directory) → Images (D.story disk.new) image → Comes (Keeps self.old.journal.path self.old.journal.at (batches ++ batch.now.operations ∷ [])) (D.story disk.old) image) }
+        ensures fault { Through result (λ appended. IsFault appended → (batches : List (List Operation)) → WhereTold (D.story disk.old) (Stands self.old.journal batches) → IsSettled self.old.journal.path (D.story disk.old)
+            → Carries (Keeps self.old.journal.path self.old.journal.at batches) (D.moment_of disk.old) (D.moment_of disk.new) (D.story disk.old) (D.story disk.new)) }
+
+        // The moment doesn't fall, whatever it answers.
+        ensures onward { D.moment_of disk.old ≤ D.moment_of disk.new }
+        ensures calls { Through result (λ appended. Calls appended (D.moment_of disk.old) (D.moment_of disk.new)) }
+        ensures later { D.faults_of disk.old ≤ D.faults_of disk.new }
+        ensures cause { Through result (λ appended. HasCause appended (D.faults_of disk.old) (D.faults_of disk.new)) }
+    {
+        let alloc = *self.rows.allocator();
+        let Ok(operations) = entries::prepare(alloc, &mut self.rows, batch.operations()) else {
+            return Committed::Memory;
+        };
+        match self.journal.append(disk, batch.framed()) {
+            Appended::Done => {
+                entries::apply_all(&mut self.rows, operations);
+                Committed::Done
+            }
+            Appended::Fault { count } => Committed::Fault { count },
+            Appended::Unsure { count } => Committed::Unsure { count },
+        }
     }
 }

@@ -7,8 +7,8 @@ use Rattle.std.proofs.lemmas.Bool.Decides.{nat_tests}
 use Rattle.std.proofs.lemmas.List.{append_assoc, append-nil}
 use Rattle.std.proofs.lemmas.List.Folds.{list_all-append}
 use Rattle.std.proofs.lemmas.List.Sums.{length-filter}
-use Rattle.dd_objects.specs.declared.choices.IndexClass.{IndexClass}
-use Rattle.dd_objects.specs.declared.choices.IndexClass.TheVariants as classes
+use Rattle.sql_types.specs.declared.choices.IndexClass.{IndexClass}
+use Rattle.sql_types.specs.declared.choices.IndexClass.TheVariants as classes
 use Rattle.dd_definitions.specs.Distinct.{are_distinct}
 use Rattle.dd_definitions.specs.Indexes.{is_primary_class, is_primary, is_secondary, is_same_index, is_primary_first, has_nullable, class_rank, rank, are_ranked_from}
 use Rattle.dd_definitions.specs.declared.columns.ColumnDef.{ColumnDef}

@@ -7,7 +7,7 @@ use Rattle.std.proofs.lemmas.Bool.{and_parts, and_from, or_parts, not-false}
 use Rattle.std.proofs.lemmas.Cmp.{nat_list_eq_equiv, lists_equiv}
 use Rattle.std.proofs.lemmas.List.{length-map, take_all}
 use Rattle.dd_names.specs.declared.object_name.ObjName.{ObjName}
-use Rattle.dd_objects.specs.declared.words.FkWords.{FkWords}
+use Rattle.sql_types.specs.declared.words.FkWords.{FkWords}
 use Rattle.dd_definitions.specs.Columns.{are_key_columns}
 use Rattle.dd_definitions.specs.Distinct.{are_distinct}
 use Rattle.dd_definitions.specs.ForeignKeys.{is_same_constraint, has_index_on, is_foreign_key_formed, are_in_order}
@@ -20,10 +20,10 @@ use Rattle.dd_catalog.specs.Kinds.{first_odd_pair}
 use Rattle.dd_catalog.specs.Walks.{done, ◌>>=◌, fine, run, look_at, refuse_if, refuse_some, over}
 use Rattle.dd_catalog.specs.WalkLaws.{Look}
 use Rattle.dd_catalog.specs.Asked.{fine_is, bind_fine, over_keeps}
-use Rattle.rules_fk.specs.ForeignKeys.{parent_of, has_index_from, odd_pair_refused, set_null_refused, spelled, is_owned_elsewhere, has_constraint_named, name_is_free, foreign_key_of}
-use Rattle.rules_fk.specs.Keys.{key_columns, key_of}
-use Rattle.rules_fk.specs.Refusals.{no_column, too_many_columns, no_parent_index, constraint_present}
-use Rattle.rules_named.specs.Refusals as refusals
+use Rattle.rules_elements.specs.ForeignKeys.{parent_of, has_index_from, odd_pair_refused, set_null_refused, spelled, is_owned_elsewhere, has_constraint_named, name_is_free, foreign_key_of}
+use Rattle.rules_elements.specs.Keys.{key_columns, key_of}
+use Rattle.rules_refusals.specs.Refusals.{key_column_does_not_exist, too_many_key_parts, fk_no_index_parent, fk_dup_name}
+use Rattle.rules_refusals.specs.Refusals as refusals
 use Rattle.rules_create.specs.Tables.{with_index, some_columns, constraint_name, key_for, with_key_index, name_in_text, put_in_order, key_named, one_foreign_key}
 use Rattle.rules_create.proofs.KeyColumns.{AreSpelled, columns_spelled, columns_counted, columns_stay, key_columns_formed}
 use Rattle.rules_create.proofs.Lists.{all_weaker, any_in_front, any_last}
@@ -105,13 +105,13 @@ name_apart : (look : Look) (parts : TableParts) (name : List ℕ) (x : Unit {0})
 unfolding name_is_free
 name_apart look parts name x is =
     let (owner, seen, last) = bind_fine look (look_at (keys.Constraint parts.name.schema (fold name))) _ x is in
-    (or_parts (is_owned_elsewhere parts.name owner) (has_constraint_named parts.foreign_keys name) (not_refused look (is_owned_elsewhere parts.name owner || has_constraint_named parts.foreign_keys name) (constraint_present name) x last)).1
+    (or_parts (is_owned_elsewhere parts.name owner) (has_constraint_named parts.foreign_keys name) (not_refused look (is_owned_elsewhere parts.name owner || has_constraint_named parts.foreign_keys name) (fk_dup_name name) x last)).1
 
 key_is_made : (look : Look) (parts : TableParts) (key made : ForeignKeyDef) → run look (foreign_key_of parts key) ≡ fine made → IsKeyMade parts key made
 unfolding foreign_key_of
 key_is_made look parts key made is =
     let (parent, _, after_parent) = bind_fine look (parent_of parts key.parent) _ made is in
-    let (_, _, after_index) = bind_fine look (refuse_if (not (has_index_from parent.indexes key.parent_columns)) (no_parent_index key.name key.parent.name)) _ made after_parent in
+    let (_, _, after_index) = bind_fine look (refuse_if (not (has_index_from parent.indexes key.parent_columns)) (fk_no_index_parent key.name key.parent.name)) _ made after_parent in
     let (_, _, after_kinds) = bind_fine look (refuse_some (odd_pair_refused key.name (first_odd_pair parts.columns parent.columns key.columns key.parent_columns))) _ made after_index in
     let (_, _, after_null) = bind_fine look (refuse_some (set_null_refused parts.columns key)) _ made after_kinds in
     let (free, apart, last) = bind_fine look (name_is_free parts key.name) _ made after_null in
@@ -176,18 +176,18 @@ one_linked table parts indexed columns asked key so_far had made fits same_colum
 foreign_key_keeps : (look : Look) (table : ObjName) (parts : TableParts) (words : FkWords) (next : TableParts) → IsLinked table parts → run look (one_foreign_key parts words) ≡ fine next → IsLinked table next
 unfolding one_foreign_key
 foreign_key_keeps look table parts words next so_far is =
-    let (_, as_many, after_count) = bind_fine look (refuse_if (not (length words.columns == length words.parent_columns)) (refusals.columns_differ (name_in_text words.constraint))) _ next is in
-    let (_, few, after_few) = bind_fine look (refuse_if (nat_lt 16 (length words.columns)) too_many_columns) _ next after_count in
+    let (_, as_many, after_count) = bind_fine look (refuse_if (not (length words.columns == length words.parent_columns)) (refusals.wrong_fk_def (name_in_text words.constraint))) _ next is in
+    let (_, few, after_few) = bind_fine look (refuse_if (nat_lt 16 (length words.columns)) too_many_key_parts) _ next after_count in
     let (_, some, after_some) = bind_fine look (some_columns words.columns) _ next after_few in
     let (columns, found, after_columns) = bind_fine look (key_columns parts.columns words.columns) _ next after_some in
     let (name, _, after_name) = bind_fine look (constraint_name parts words.constraint) _ next after_columns in
     let (indexed, led, after_index) = bind_fine look (with_key_index parts words columns) _ next after_name in
     let (key, made, last) = bind_fine look (foreign_key_of indexed (key_named words parts.name name columns)) _ next after_index in
     let counted : length columns ≡ length words.columns = columns_counted look parts.columns words.columns columns found in
-    let there : (length words.columns == 0) ≡ false = not_refused look (length words.columns == 0) (no_column []) tt some in
-    let within : nat_lt 16 (length words.columns) ≡ false = not_refused look (nat_lt 16 (length words.columns)) too_many_columns tt few in
+    let there : (length words.columns == 0) ≡ false = not_refused look (length words.columns == 0) (key_column_does_not_exist []) tt some in
+    let within : nat_lt 16 (length words.columns) ≡ false = not_refused look (nat_lt 16 (length words.columns)) too_many_key_parts tt few in
     let equal : (length words.columns == length words.parent_columns) ≡ true =
-    not-false (length words.columns == length words.parent_columns) (not_refused look (not (length words.columns == length words.parent_columns)) (refusals.columns_differ (name_in_text words.constraint)) tt as_many) in
+    not-false (length words.columns == length words.parent_columns) (not_refused look (not (length words.columns == length words.parent_columns)) (refusals.wrong_fk_def (name_in_text words.constraint)) tt as_many) in
     let had : HasKeyIndex parts columns indexed = key_index look parts words columns indexed (columns_spelled look parts.columns words.columns columns found) (ap (λ n. n == 0) counted ∙ there) led in
     let new : IsKeyMade indexed (key_named words parts.name name columns) key = key_is_made look indexed (key_named words parts.name name columns) key made in
     let fits : are_key_columns parts.columns columns ≡ true = key_columns_formed look parts.columns words.columns columns there within found in

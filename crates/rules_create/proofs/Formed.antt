@@ -8,9 +8,9 @@ use Rattle.std.proofs.lemmas.Bool.Decides.{nat_tests}
 use Rattle.dd_names.specs.declared.object_name.ObjName.{ObjName}
 use Rattle.dd_names.specs.declared.object_name.ObjectKey.TheVariants as keys
 use Rattle.dd_errors.specs.Errors.{ErrorValue}
-use Rattle.dd_objects.specs.declared.words.ObjRef.{ObjRef}
-use Rattle.ddl_words.specs.declared.session.SessionState.{SessionState}
-use Rattle.ddl_words.specs.declared.element.Element.{Element}
+use Rattle.sql_types.specs.declared.words.ObjRef.{ObjRef}
+use Rattle.sql_ast.specs.declared.session.SessionState.{SessionState}
+use Rattle.sql_ast.specs.declared.element.Element.{Element}
 use Rattle.dd_definitions.specs.Columns.{are_key_columns, are_columns_formed}
 use Rattle.dd_definitions.specs.Distinct.{are_distinct}
 use Rattle.dd_definitions.specs.ForeignKeys.{is_same_constraint, has_index_on, is_foreign_key_formed, are_in_order, are_foreign_keys_formed}
@@ -23,13 +23,13 @@ use Rattle.dd_definitions.specs.declared.parts.TableParts.{TableParts}
 use Rattle.dd_catalog.specs.Walks.{done, ◌>>=◌, fine, run, look_at, refuse_if, over}
 use Rattle.dd_catalog.specs.WalkLaws.{Look}
 use Rattle.dd_catalog.specs.Asked.{fine_is, bind_fine}
-use Rattle.ddl_decided.specs.Choices.{Choice}
-use Rattle.rules_named.specs.Refusals as refusals
+use Rattle.rules_outcome.specs.Choices.{Choice}
+use Rattle.rules_refusals.specs.Refusals as refusals
 use Rattle.rules_named.specs.Named.{is_nothing, one_named, unless}
 use Rattle.rules_create.specs.Leaves.{LeavesFormed}
 use Rattle.rules_create.specs.Tables.{column_in, foreign_key_in, all_keys, all_columns, one_key, one_foreign_key, by_class, is_auto_led, are_autos_led, within_limits, of_columns, table_of, table_made, create_table}
 use Rattle.rules_create.proofs.ByClass.{by_class_all, by_class_any, by_class_distinct, by_class_count, by_class_ranked, by_class_primary}
-use Rattle.rules_create.proofs.Columns.{is_auto_sound, AreSound, columns_sound}
+use Rattle.rules_create.proofs.MadeColumns.{is_auto_sound, AreSound, columns_sound}
 use Rattle.rules_create.proofs.ForeignKeys.{AreLinked, IsLinked, foreign_keys_keep}
 use Rattle.rules_create.proofs.Lists.{all_weaker}
 use Rattle.rules_create.proofs.Names.{not_refused}
@@ -52,11 +52,11 @@ record IsWithin (parts : TableParts) : Type 0 where
 is_within : (look : Look) (parts : TableParts) (x : Unit {0}) → run look (within_limits parts) ≡ fine x → IsWithin parts
 unfolding within_limits
 is_within look parts x is =
-    let (few, indexes, after_indexes) = bind_fine look (refuse_if (nat_lt 64 (count_by is_secondary parts.indexes)) refusals.too_many_indexes) _ x is in
-    let (led, autos, last) = bind_fine look (refuse_if (not (are_autos_led parts)) refusals.bad_auto_column) _ x after_indexes in
+    let (few, indexes, after_indexes) = bind_fine look (refuse_if (nat_lt 64 (count_by is_secondary parts.indexes)) refusals.too_many_keys) _ x is in
+    let (led, autos, last) = bind_fine look (refuse_if (not (are_autos_led parts)) refusals.wrong_auto_key) _ x after_indexes in
     record {
-      few = at_most 64 (count_by is_secondary parts.indexes) (not_refused look (nat_lt 64 (count_by is_secondary parts.indexes)) refusals.too_many_indexes few indexes);
-      led = not-false (are_autos_led parts) (not_refused look (not (are_autos_led parts)) refusals.bad_auto_column led autos);
+      few = at_most 64 (count_by is_secondary parts.indexes) (not_refused look (nat_lt 64 (count_by is_secondary parts.indexes)) refusals.too_many_keys few indexes);
+      led = not-false (are_autos_led parts) (not_refused look (not (are_autos_led parts)) refusals.wrong_auto_key led autos);
       keys = at_most 1024 (length parts.foreign_keys) (not_refused look (nat_lt 1024 (length parts.foreign_keys)) (refusals.beyond_limit "1024") x last);
     }
 
@@ -191,6 +191,6 @@ create_leaves_formed look session if_not_exists ref elements choice is =
     let (seen, there, after_look) = bind_fine look (look_at (keys.Object table)) _ choice after_name in
     on table (is_nothing seen) after_look
   where
-    on : (table : ObjName) (b : Bool) → run look (if b then (table_of table elements >>= λ parts. done (table_made session table parts)) else unless if_not_exists (refusals.table_present table.name)) ≡ fine choice → LeavesFormed choice
+    on : (table : ObjName) (b : Bool) → run look (if b then (table_of table elements >>= λ parts. done (table_made session table parts)) else unless if_not_exists (refusals.table_exists table.name)) ≡ fine choice → LeavesFormed choice
     on table true is = made_left look session table elements choice is
-    on table false is = unless_same look if_not_exists (refusals.table_present table.name) choice is
+    on table false is = unless_same look if_not_exists (refusals.table_exists table.name) choice is

@@ -12,7 +12,7 @@ use Rattle.std.proofs.lemmas.List.{length-map, length-append, map-append, append
 use Rattle.dd_names.specs.Names.{same, fold}
 use Rattle.dd_definitions.specs.Indexes.{primary_name}
 use Rattle.dd_definitions.specs.declared.indexes.IndexDef.{IndexDef}
-use Rattle.rules_fk.specs.Keys.{has_index_named, is_taken, numbered, free_from, free_name}
+use Rattle.rules_elements.specs.Keys.{has_index_named, is_taken, numbered, free_from, free_name}
 use Rattle.rules_create.proofs.Names.{bytes_are, bytes_turned}
 
 -- ## More names than places

@@ -14,8 +14,8 @@ use Rattle.dd_catalog.specs.Kinds.{column_named}
 use Rattle.dd_catalog.specs.Walks.{fine, run, over}
 use Rattle.dd_catalog.specs.WalkLaws.{Look}
 use Rattle.dd_catalog.specs.Asked.{fine_is, bind_fine, over_keeps}
-use Rattle.rules_fk.specs.Keys.{spelled_column, one_more, key_columns}
-use Rattle.rules_fk.specs.Refusals.{column_twice}
+use Rattle.rules_elements.specs.Keys.{spelled_column, one_more, key_columns}
+use Rattle.rules_refusals.specs.Refusals.{dup_fieldname}
 use Rattle.rules_create.proofs.Lists.{all_push, any_weaker, none_stronger, distinct_parts, distinct_push}
 use Rattle.rules_create.proofs.Names.{bytes_are, bytes_same, bytes_turned, same_where_equal, done_unless}
 
@@ -47,7 +47,7 @@ new_column : (look : Look) (columns : List ColumnDef) (before : List (List ℕ))
     → run look (spelled_column before name found) ≡ fine spelled → IsNew columns before spelled
 new_column look columns before name None spelled found is = cc
 new_column look columns before name (Some column) spelled found is =
-    let (apart, same_name) = done_unless look (list_any (bytes_eq column.name) before) (column_twice name) column.name spelled is in
+    let (apart, same_name) = done_unless look (list_any (bytes_eq column.name) before) (dup_fieldname name) column.name spelled is in
     subst (IsNew columns before) same_name (record { spelled = column_found columns name column found; apart = apart })
 
 one_spelled : (look : Look) (columns : List ColumnDef) (before : List (List ℕ)) (name : List ℕ) (next : List (List ℕ)) → AreSpelled columns before → run look (one_more columns before name) ≡ fine next → AreSpelled columns next
@@ -120,7 +120,7 @@ one_stays look columns before name next distinct spelled is =
     let (column, found, named) = spelled_found columns name distinct spelled in
     let (made, one, last) = bind_fine look (spelled_column before name (column_named columns name)) _ next is in
     let again : run look (spelled_column before name (Some column)) ≡ fine made = subst (λ f. run look (spelled_column before name f) ≡ fine made) found one in
-    let (_, same_name) = done_unless look (list_any (bytes_eq column.name) before) (column_twice name) column.name made again in
+    let (_, same_name) = done_unless look (list_any (bytes_eq column.name) before) (dup_fieldname name) column.name made again in
     ap (λ (n : List ℕ). before ++ n ∷ []) (sym named ∙ same_name) ∙ fine_is last
 
 over_stays : (look : Look) (columns : List ColumnDef) (before names made : List (List ℕ)) → are_distinct is_same_column columns ≡ true → list_all (is_column columns) names ≡ true

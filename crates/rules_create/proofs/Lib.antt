@@ -1,10 +1,15 @@
+pub mod Flat
+pub mod Fronts
+pub mod Digits
+pub mod Parts
+pub mod Filled
 pub mod Lists
-mod Numbers
+mod MadeNumbers
 pub mod Names
-mod Columns
+mod MadeColumns
 mod KeyColumns
 mod FreeNames
-mod Keys
+mod MadeKeys
 mod WithIndex
 pub mod Order
 mod OneKey
@@ -12,4 +17,3 @@ mod ForeignKeys
 mod ByClass
 pub mod Formed
 pub mod Seen
-mod Fronts

@@ -4,8 +4,8 @@ use Rattle.std.specs.List.{list_any, count_by}
 use Rattle.std.proofs.Common.{◌∙◌, ap, subst, arith}
 use Rattle.std.proofs.lemmas.Bool.{and_parts}
 use Rattle.dd_names.specs.declared.object_name.ObjName.{ObjName}
-use Rattle.dd_objects.specs.declared.words.ColumnWords.{ColumnWords}
-use Rattle.dd_objects.specs.declared.words.KeyWords.{KeyWords}
+use Rattle.sql_types.specs.declared.words.ColumnWords.{ColumnWords}
+use Rattle.sql_types.specs.declared.words.KeyWords.{KeyWords}
 use Rattle.dd_definitions.specs.Columns.{are_key_columns}
 use Rattle.dd_definitions.specs.Indexes.{is_primary, is_secondary, is_well_named, is_never_null, is_index_formed}
 use Rattle.dd_definitions.specs.declared.columns.ColumnDef.{ColumnDef}
@@ -14,11 +14,11 @@ use Rattle.dd_definitions.specs.declared.parts.TableParts.{TableParts}
 use Rattle.dd_catalog.specs.Walks.{fine, run, refuse_if, over}
 use Rattle.dd_catalog.specs.WalkLaws.{Look}
 use Rattle.dd_catalog.specs.Asked.{fine_is, bind_fine, over_keeps}
-use Rattle.rules_fk.specs.Keys.{key_of}
-use Rattle.rules_fk.specs.Refusals.{no_column}
-use Rattle.rules_named.specs.Refusals as refusals
+use Rattle.rules_elements.specs.Keys.{key_of}
+use Rattle.rules_refusals.specs.Refusals.{key_column_does_not_exist}
+use Rattle.rules_refusals.specs.Refusals as refusals
 use Rattle.rules_create.specs.Tables.{is_null_written, with_index, some_columns, one_key}
-use Rattle.rules_create.proofs.Keys.{IsReady, IsIndexMade, index_is_made}
+use Rattle.rules_create.proofs.MadeKeys.{IsReady, IsIndexMade, index_is_made}
 use Rattle.rules_create.proofs.Lists.{all_weaker, one_if, count_push, count_both}
 use Rattle.rules_create.proofs.Names.{not_refused}
 use Rattle.rules_create.proofs.WithIndex.{IsWith, index_is_with, AreIndexed, index_keeps}
@@ -88,8 +88,8 @@ unfolding one_key
 key_keeps look table written parts words next so_far is =
     let (_, some, after_some) = bind_fine look (some_columns words.columns) _ next is in
     let (index, made, after_index) = bind_fine look (key_of parts words) _ next after_some in
-    let (_, not_null, last) = bind_fine look (refuse_if (is_primary index && list_any (is_null_written written) index.columns) refusals.null_in_primary) _ next after_index in
-    let any = not_refused look (length words.columns == 0) (no_column []) tt some in
+    let (_, not_null, last) = bind_fine look (refuse_if (is_primary index && list_any (is_null_written written) index.columns) refusals.primary_cant_have_null) _ next after_index in
+    let any = not_refused look (length words.columns == 0) (key_column_does_not_exist []) tt some in
     subst (IsKeyed table) (fine_is last) (record {
       name = with_name parts index ∙ so_far.name;
       none = with_foreign_keys parts index ∙ so_far.none;

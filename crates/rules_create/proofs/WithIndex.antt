@@ -7,7 +7,7 @@ use Rattle.std.proofs.Common.{sym, ◌∙◌, ap, subst, arith, inl, inr}
 use Rattle.std.proofs.lemmas.Bool.{true≢false, and_parts, and_from, or_cases, or_left, or_right, not-true, not_from_false, false_from_ne_true, cond_both}
 use Rattle.std.proofs.lemmas.List.{length-map}
 use Rattle.dd_names.specs.Names.{same}
-use Rattle.dd_objects.specs.declared.words.KeyWords.{KeyWords}
+use Rattle.sql_types.specs.declared.words.KeyWords.{KeyWords}
 use Rattle.dd_definitions.specs.Columns.{is_same_column, are_columns_named, is_typed, are_columns_formed, is_column, is_nullable, are_key_columns}
 use Rattle.dd_definitions.specs.Distinct.{are_distinct}
 use Rattle.dd_definitions.specs.Indexes.{is_primary, is_secondary, is_same_index, is_integer, has_nullable, is_well_named, is_never_null, is_index_formed}
@@ -16,8 +16,8 @@ use Rattle.dd_definitions.specs.declared.indexes.IndexDef.{IndexDef}
 use Rattle.dd_definitions.specs.declared.parts.TableParts.{TableParts}
 use Rattle.dd_catalog.specs.WalkLaws.{Look}
 use Rattle.rules_create.specs.Tables.{never_null, with_index}
-use Rattle.rules_create.proofs.Columns.{is_auto_sound, AreSound}
-use Rattle.rules_create.proofs.Keys.{IsIndexMade}
+use Rattle.rules_create.proofs.MadeColumns.{is_auto_sound, AreSound}
+use Rattle.rules_create.proofs.MadeKeys.{IsIndexMade}
 use Rattle.rules_create.proofs.Lists.{all_weaker, any_weaker, none_stronger, some_passes, all_push, distinct_push, any_map, all_map, same_any, same_all, distinct_map, each_in, count_push, count_none}
 use Rattle.rules_create.proofs.Names.{bytes_are, bytes_same}
 

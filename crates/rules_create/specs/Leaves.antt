@@ -10,7 +10,7 @@ use Rattle.dd_definitions.specs.declared.parts.TableParts.{TableParts}
 use Rattle.dd_definitions.specs.declared.view_parts.ViewParts.{ViewParts}
 use Rattle.dd_catalog.specs.Sights.{TableThere, ViewThere}
 use Rattle.dd_catalog.specs.WalkLaws.{Look}
-use Rattle.ddl_decided.specs.Choices.{After, Gone, Schema, FreshTable, KeptTable, View, Change, Choice, Same, Changes, Lists}
+use Rattle.rules_outcome.specs.Choices.{After, Gone, NewSchema, FreshTable, KeptTable, NewView, KeptView, Change, Choice, Same, Changes, Lists}
 
 -- a table that fits together and has this name
 pub record IsTableAt (name : ObjName) (parts : TableParts) : Type 0 where
@@ -29,10 +29,11 @@ pub record SeesFormed (look : Look) : Type 0 where
 
 abbrev pub IsFormedAt : ObjName → After → Type 0
 IsFormedAt name Gone = Unit {0}
-IsFormedAt name Schema = Unit {0}
+IsFormedAt name NewSchema = Unit {0}
 IsFormedAt name (FreshTable parts) = IsTableAt name parts
 IsFormedAt name (KeptTable space parts) = IsTableAt name parts
-IsFormedAt name (View parts) = IsViewAt name parts
+IsFormedAt name (NewView parts) = IsViewAt name parts
+IsFormedAt name (KeptView parts) = IsViewAt name parts
 
 abbrev pub IsFormedBehind : ObjectKey → After → Type 0
 IsFormedBehind (keys.Object name) after = IsFormedAt name after

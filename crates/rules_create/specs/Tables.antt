@@ -9,17 +9,17 @@ use Rattle.dd_names.specs.Names.{same, fold, name_cmp}
 use Rattle.dd_names.specs.declared.object_name.ObjName.{ObjName}
 use Rattle.dd_names.specs.declared.object_name.ObjectKey.TheVariants as keys
 use Rattle.dd_errors.specs.Errors.{ErrorValue}
-use Rattle.dd_objects.specs.declared.choices.IndexClass.{IndexClass}
-use Rattle.dd_objects.specs.declared.choices.IndexClass.TheVariants as classes
-use Rattle.dd_objects.specs.declared.literal.Literal.{Literal}
-use Rattle.dd_objects.specs.declared.literal.Literal.TheVariants as literals
-use Rattle.dd_objects.specs.declared.words.ObjRef.{ObjRef}
-use Rattle.dd_objects.specs.declared.words.ColumnWords.{ColumnWords}
-use Rattle.dd_objects.specs.declared.words.KeyWords.{KeyWords}
-use Rattle.dd_objects.specs.declared.words.FkWords.{FkWords}
-use Rattle.ddl_words.specs.declared.element.Element.{Element}
-use Rattle.ddl_words.specs.declared.element.Element.TheVariants.{Column, Key, ForeignKey}
-use Rattle.ddl_words.specs.declared.session.SessionState.{SessionState}
+use Rattle.sql_types.specs.declared.choices.IndexClass.{IndexClass}
+use Rattle.sql_types.specs.declared.choices.IndexClass.TheVariants as classes
+use Rattle.sql_types.specs.declared.literal.Literal.{Literal}
+use Rattle.sql_types.specs.declared.literal.Literal.TheVariants as literals
+use Rattle.sql_types.specs.declared.words.ObjRef.{ObjRef}
+use Rattle.sql_types.specs.declared.words.ColumnWords.{ColumnWords}
+use Rattle.sql_types.specs.declared.words.KeyWords.{KeyWords}
+use Rattle.sql_types.specs.declared.words.FkWords.{FkWords}
+use Rattle.sql_ast.specs.declared.element.Element.{Element}
+use Rattle.sql_ast.specs.declared.element.Element.TheVariants.{Column, Key, ForeignKey}
+use Rattle.sql_ast.specs.declared.session.SessionState.{SessionState}
 use Rattle.dd_definitions.specs.Defaults.{value_behind, begins_with_zero}
 use Rattle.dd_definitions.specs.Indexes.{is_primary, is_secondary, rank, leads_index, are_few_autos}
 use Rattle.dd_definitions.specs.ForeignKeys.{has_index_on}
@@ -28,12 +28,12 @@ use Rattle.dd_definitions.specs.declared.indexes.IndexDef.{IndexDef}
 use Rattle.dd_definitions.specs.declared.foreign_keys.ForeignKeyDef.{ForeignKeyDef}
 use Rattle.dd_definitions.specs.declared.parts.TableParts.{TableParts}
 use Rattle.dd_catalog.specs.Walks.{Walk, done, refuse, ◌>>=◌, look_at, refuse_if, over}
-use Rattle.rules_fk.specs.Refusals.{column_twice, too_many_columns, no_column}
-use Rattle.rules_fk.specs.Columns.{column_of}
-use Rattle.rules_fk.specs.Keys.{key_columns, key_of, first_given, made_name}
-use Rattle.rules_fk.specs.ForeignKeys.{foreign_key_of}
-use Rattle.ddl_decided.specs.Choices.{FreshTable, change, Choice, Changes}
-use Rattle.rules_named.specs.Refusals as refusals
+use Rattle.rules_refusals.specs.Refusals.{dup_fieldname, too_many_key_parts, key_column_does_not_exist}
+use Rattle.rules_elements.specs.Columns.{column_of}
+use Rattle.rules_elements.specs.Keys.{key_columns, key_of, first_given, made_name}
+use Rattle.rules_elements.specs.ForeignKeys.{foreign_key_of}
+use Rattle.rules_outcome.specs.Choices.{FreshTable, change, Choice, Changes}
+use Rattle.rules_refusals.specs.Refusals as refusals
 use Rattle.rules_named.specs.Named.{object_in, is_nothing, one_named, unless}
 
 -- ## What the elements are
@@ -71,7 +71,7 @@ has_column columns name = list_any (λ (column : ColumnDef). same column.name na
 -- a name that is there: 1060; then the column by itself
 unfoldable pub one_column : List ColumnDef → ColumnWords → Walk ErrorValue (List ColumnDef)
 one_column before words = do
-  _ ← refuse_if (has_column before words.name) (column_twice words.name)
+  _ ← refuse_if (has_column before words.name) (dup_fieldname words.name)
   column ← column_of words
   done (before ++ column ∷ [])
 
@@ -79,8 +79,8 @@ one_column before words = do
 unfoldable pub all_columns : List ColumnWords → Walk ErrorValue (List ColumnDef)
 all_columns words = do
   columns ← over one_column [] words
-  _ ← refuse_if (length columns == 0) refusals.no_columns
-  _ ← refuse_if (nat_lt 1017 (length columns)) refusals.too_many_columns
+  _ ← refuse_if (length columns == 0) refusals.table_must_have_columns
+  _ ← refuse_if (nat_lt 1017 (length columns)) refusals.too_many_fields
   done columns
 
 -- ## Keys
@@ -109,14 +109,14 @@ with_index parts index = record parts {
 
 -- a key without columns, which no text writes, is refused as one with an unknown column
 abbrev pub some_columns : List (List ℕ) → Walk ErrorValue (Unit {0})
-some_columns names = refuse_if (length names == 0) (no_column [])
+some_columns names = refuse_if (length names == 0) (key_column_does_not_exist [])
 
 -- a key; for a primary key, a column for which NULL or DEFAULT NULL is written: 1171
 unfoldable pub one_key : List ColumnWords → TableParts → KeyWords → Walk ErrorValue TableParts
 one_key written parts words = do
   _ ← some_columns words.columns
   index ← key_of parts words
-  _ ← refuse_if (is_primary index && list_any (is_null_written written) index.columns) refusals.null_in_primary
+  _ ← refuse_if (is_primary index && list_any (is_null_written written) index.columns) refusals.primary_cant_have_null
   done (with_index parts index)
 
 -- ## Foreign keys
@@ -192,8 +192,8 @@ key_named words table name columns = record {
 -- stands twice, 1060. Then its name, its index, its parent and its columns.
 unfoldable pub one_foreign_key : TableParts → FkWords → Walk ErrorValue TableParts
 one_foreign_key parts words = do
-  _ ← refuse_if (not (length words.columns == length words.parent_columns)) (refusals.columns_differ (name_in_text words.constraint))
-  _ ← refuse_if (nat_lt 16 (length words.columns)) too_many_columns
+  _ ← refuse_if (not (length words.columns == length words.parent_columns)) (refusals.wrong_fk_def (name_in_text words.constraint))
+  _ ← refuse_if (nat_lt 16 (length words.columns)) too_many_key_parts
   _ ← some_columns words.columns
   columns ← key_columns parts.columns words.columns
   name ← constraint_name parts words.constraint
@@ -223,8 +223,8 @@ are_autos_led parts = are_few_autos parts.columns && list_all (is_auto_led parts
 -- keys: 9001
 unfoldable pub within_limits : TableParts → Walk ErrorValue (Unit {0})
 within_limits parts = do
-  _ ← refuse_if (nat_lt 64 (count_by is_secondary parts.indexes)) refusals.too_many_indexes
-  _ ← refuse_if (not (are_autos_led parts)) refusals.bad_auto_column
+  _ ← refuse_if (nat_lt 64 (count_by is_secondary parts.indexes)) refusals.too_many_keys
+  _ ← refuse_if (not (are_autos_led parts)) refusals.wrong_auto_key
   refuse_if (nat_lt 1024 (length parts.foreign_keys)) (refusals.beyond_limit "1024")
 
 abbrev pub of_columns : ObjName → List ColumnDef → TableParts
@@ -247,4 +247,4 @@ unfoldable pub create_table : SessionState → Bool → ObjRef → List Element 
 create_table session if_not_exists ref elements = do
   table ← one_named session.current ref
   seen ← look_at (keys.Object table)
-  if is_nothing seen then (table_of table elements >>= λ parts. done (table_made session table parts)) else unless if_not_exists (refusals.table_present table.name)
+  if is_nothing seen then (table_of table elements >>= λ parts. done (table_made session table parts)) else unless if_not_exists (refusals.table_exists table.name)

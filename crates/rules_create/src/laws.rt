@@ -1,15 +1,15 @@
 ghost use Rattle.std.specs.Prelude.{◌≡◌, Bool, true, List};
 ghost use Rattle.dd_names.specs.declared.object_name.ObjName.{ObjName};
-ghost use Rattle.dd_objects.specs.declared.words.ObjRef.{ObjRef};
-ghost use Rattle.ddl_words.specs.declared.session.SessionState.{SessionState};
-ghost use Rattle.ddl_words.specs.declared.element.Element.{Element};
+ghost use Rattle.sql_types.specs.declared.words.ObjRef.{ObjRef};
+ghost use Rattle.sql_ast.specs.declared.session.SessionState.{SessionState};
+ghost use Rattle.sql_ast.specs.declared.element.Element.{Element};
 ghost use Rattle.dd_definitions.specs.WellFormed.{is_well_formed};
 ghost use Rattle.dd_definitions.specs.declared.parts.TableParts.{TableParts};
 ghost use Rattle.dd_catalog.specs.Catalog.{Catalog, sight_of};
 ghost use Rattle.dd_catalog.specs.Valid.{IsValid};
 ghost use Rattle.dd_catalog.specs.Walks.{fine, run};
 ghost use Rattle.dd_catalog.specs.WalkLaws.{Look, IsOf};
-ghost use Rattle.ddl_decided.specs.Choices.{Choice};
+ghost use Rattle.rules_outcome.specs.Choices.{Choice};
 ghost use Rattle.rules_create.specs.Leaves.{SeesFormed, LeavesFormed};
 ghost use Rattle.rules_create.specs.Tables.{table_of, create_table};
 

@@ -4,12 +4,12 @@ use Rattle.std.specs.Prelude.{ℕ, Bool, true, false, List, [], ◌∷◌, Optio
 use Rattle.dd_names.specs.declared.object_name.ObjName.{ObjName}
 use Rattle.dd_names.specs.declared.object_name.ObjectKey.TheVariants as keys
 use Rattle.dd_errors.specs.Errors.{ErrorValue}
-use Rattle.dd_objects.specs.declared.words.ObjRef.{ObjRef}
+use Rattle.sql_types.specs.declared.words.ObjRef.{ObjRef}
 use Rattle.dd_catalog.specs.Sights.{Sight, Nothing}
 use Rattle.dd_catalog.specs.Walks.{Walk, done, refuse, ◌>>=◌, look_at, refuse_if, each, every}
-use Rattle.rules_fk.specs.Keys.{first_given}
-use Rattle.ddl_decided.specs.Choices.{Choice, Same}
-use Rattle.rules_named.specs.Refusals.{no_schema_selected, unknown_schema}
+use Rattle.rules_elements.specs.Keys.{first_given}
+use Rattle.rules_outcome.specs.Choices.{Choice, Same}
+use Rattle.rules_refusals.specs.Refusals.{no_db, bad_db}
 
 abbrev pub object_in : List ℕ → List ℕ → ObjName
 object_in schema name = record { schema = schema; name = name }
@@ -19,7 +19,7 @@ is_nothing Nothing = true
 is_nothing seen = false
 
 abbrev pub in_schema : Option (List ℕ) → List ℕ → Walk ErrorValue ObjName
-in_schema None name = refuse no_schema_selected
+in_schema None name = refuse no_db
 in_schema (Some schema) name = done (object_in schema name)
 
 -- the schema that is written, or the current one
@@ -29,7 +29,7 @@ resolved current ref = in_schema (first_given ref.schema current) ref.name
 unfoldable pub schema_there : List ℕ → Walk ErrorValue (Unit {0})
 schema_there name = do
   seen ← look_at (keys.Schema name)
-  refuse_if (is_nothing seen) (unknown_schema name)
+  refuse_if (is_nothing seen) (bad_db name)
 
 abbrev pub own_schema_there : ObjName → Walk ErrorValue (Unit {0})
 own_schema_there object = schema_there object.schema

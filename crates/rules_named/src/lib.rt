@@ -1,9 +1,11 @@
-//! The objects that a statement names, and the refusals of statements.
+//! The objects that a statement names, and the edits that it comes to.
 #![tactic(auto)]
 
 mod answers;
 mod named;
-pub mod refusals;
 
-pub use answers::{add_edit, decided, stood};
-pub use named::{all_named, first_given, known_at, one_named, resolved, schema_there};
+pub use answers::{add_edit, stood};
+pub use dd_catalog::look_at as known_at;
+pub use named::{
+    Placed, all_named, first_given, one_named, one_placed, resolved, schema_id, schema_there,
+};

@@ -1,29 +1,17 @@
 // The objects that a statement names.
-ghost use Rattle.std.specs.Prelude.{◌≡◌, IfOk, Some};
+ghost use Rattle.std.specs.Prelude.{◌≡◌, ◌⊎◌, Err, IfOk, IsOk, Some};
 ghost use Rattle.std.specs.Option.{option_copied};
 ghost use Rattle.dd_catalog.specs.Sights.{sight};
 ghost use Rattle.dd_catalog.specs.Walks.{run, look_at, each, every};
 ghost use Rattle.dd_catalog.specs.WalkLaws.{Look};
 ghost use Rattle.dd_catalog.specs.Follow.{Follows, sights};
-ghost use Rattle.rules_fk.specs.Keys.{first_given};
+ghost use Rattle.rules_elements.specs.Keys.{first_given};
 ghost use Rattle.rules_named.specs.Named.{resolved, schema_there, own_schema_there, one_named, all_named};
 
-use crate::refusals;
-use dd_catalog::{Known, Lookup, Object, Stop};
+use dd_catalog::{Lookup, Object, Stop, look_at};
 use dd_names::{List, Name, ObjName, ObjectKey, TryCopy};
-use dd_objects::ObjRef;
+use sql_types::ObjRef;
 use std::alloc::Global;
-
-/// What is known to stand at a key, or the need of it.
-pub fn known_at<'a, L: Lookup>(look: &'a L, key: &ObjectKey) -> Result<&'a Object, Stop>
-    ensures seen { Follows (λ object. sight object.now) result (run (sights (L.known look.now)) (look_at key.now)) }
-    ensures known { IfOk result (λ object. L.known look.now key.now ≡ Some object.now) }
-{
-    match look.look(key) {
-        Known::Here(object) => Ok(object),
-        Known::Unknown => Err(Stop::Need(key.copy()?)),
-    }
-}
 
 /// The first name, or the other where there is none.
 pub fn first_given<'a>(given: &'a Option<Name>, other: &'a Option<Name>) -> Option<&'a Name>
@@ -41,7 +29,7 @@ pub fn resolved(alloc: Global, current: &Option<Name>, named: &ObjRef) -> Result
     ensures { (look : Look) → Follows (λ object. object) result (run look (resolved current.now named.now)) }
 {
     match first_given(&named.schema, current) {
-        None => Err(Stop::Refused(refusals::no_schema_selected(alloc))),
+        None => Err(rules_refusals::no_db(alloc)),
         Some(schema) => Ok(ObjName {
             schema: schema.copy()?,
             name: named.name.copy()?,
@@ -59,10 +47,19 @@ pub fn schema_there<'a, L: Lookup>(
     ensures seen { Follows (λ _. tt) result (run (sights (L.known look.now)) (schema_there schema.now)) }
     ensures known { IfOk result (λ object. L.known look.now (ObjectKey.Schema schema.now) ≡ Some object.now) }
 {
-    match known_at(look, &ObjectKey::Schema(schema.copy()?))? {
-        Object::Absent => Err(Stop::Refused(refusals::unknown_schema(alloc, schema)?)),
+    match schema_at(schema, look)? {
+        Object::Absent => Err(rules_refusals::bad_db(alloc, schema)?),
         object => Ok(object),
     }
+}
+
+/// What stands at a schema's key.
+fn schema_at<'a, L: Lookup>(schema: &Name, look: &'a L) -> Result<&'a Object, Stop>
+    ensures seen { Follows (λ object. sight object.now) result (run (sights (L.known look.now)) (look_at (ObjectKey.Schema schema.now))) }
+    ensures known { IfOk result (λ object. L.known look.now (ObjectKey.Schema schema.now) ≡ Some object.now) }
+{
+    let key = ObjectKey::Schema(schema.copy()?);
+    look_at(look, &key)
 }
 
 /// The object that is named, whose schema is there: 1046, 1049.
@@ -78,6 +75,40 @@ pub fn one_named<L: Lookup>(
     let object = resolved(alloc, current, named)?;
     schema_there(alloc, &object.schema, look)?;
     Ok(object)
+}
+
+/// An object that is named, and the id of its schema.
+#[derive(Drop)]
+pub struct Placed {
+    pub name: ObjName,
+    pub schema: u32,
+}
+
+/// As `one_named`, with the id of the schema.
+#[tactic(auto, using(dd_catalog::specs::WalkLaws::run_bind), unfolding(crate::specs::Named::one_named))]
+pub fn one_placed<L: Lookup>(
+    alloc: Global,
+    current: &Option<Name>,
+    named: &ObjRef,
+    look: &L,
+) -> Result<Placed, Stop>
+    ensures seen { Follows (λ placed. placed.name) result (run (sights (L.known look.now)) (one_named current.now named.now)) }
+    ensures known { IfOk result (λ placed. L.known look.now (ObjectKey.Schema placed.name.schema) ≡ Some (Object.Schema placed.schema)) }
+{
+    let name = resolved(alloc, current, named)?;
+    let schema = schema_id(schema_there(alloc, &name.schema, look)?)?;
+    Ok(Placed { name, schema })
+}
+
+/// The id of what stands at a schema's key. What isn't a schema never stands there, and gets no answer.
+pub fn schema_id(object: &Object) -> Result<u32, Stop>
+    ensures id { IfOk result (λ id. object.now ≡ Object.Schema id) }
+    ensures none { result ≡ Err Stop.Memory ⊎ IsOk result }
+{
+    match object {
+        Object::Schema { id } => Ok(*id),
+        _ => Err(Stop::Memory),
+    }
 }
 
 /// The objects that are named, whose schemas are there: first 1046 of each, and then 1049.

@@ -1,3 +1,14 @@
-pub mod ForeignKeys
-pub mod Overlays
-pub mod Leaves
+pub mod Puts
+pub mod Places
+pub mod Behind
+pub mod Names
+pub mod ChildrenAmong
+pub mod OwnersAmong
+pub mod Keys
+pub mod Edits
+pub mod Ids
+pub mod Free
+pub mod Steps
+pub mod Sighted
+pub mod Pair
+pub mod Whole

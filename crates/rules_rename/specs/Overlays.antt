@@ -9,8 +9,7 @@ use Rattle.dd_names.specs.declared.object_name.ObjectKey.TheVariants as keys
 use Rattle.dd_catalog.specs.Sights.{Sight, Nothing, TableThere, ViewThere, ChildrenThere, OwnerThere}
 use Rattle.dd_catalog.specs.Walks.{Walk, done, refuse, ask}
 use Rattle.dd_catalog.specs.Catalog.{Placed, Table, View, object_cmp, children_among, owner_among}
-use Rattle.ddl_decided.specs.Choices.{After, Gone, Schema, FreshTable, KeptTable, Change, change}
-use Rattle.ddl_decided.specs.Choices as after
+use Rattle.rules_outcome.specs.Choices.{After, Gone, NewSchema, FreshTable, KeptTable, NewView, KeptView, Change, change}
 use Rattle.rules_schema.specs.Drops.{children_seen}
 
 -- the objects that are changed, each with what it is then
@@ -23,10 +22,11 @@ is_changed overlay object = finite_map.contains_key overlay object
 -- an object behind its change; a table with a new tablespace has no space yet
 abbrev pub placed_of : ObjName × After → List (ObjName × Placed)
 placed_of (object, Gone) = []
-placed_of (object, Schema) = []
+placed_of (object, NewSchema) = []
 placed_of (object, FreshTable parts) = (object, Table 0 parts) ∷ []
 placed_of (object, KeptTable space parts) = (object, Table space parts) ∷ []
-placed_of (object, after.View parts) = (object, View parts) ∷ []
+placed_of (object, NewView parts) = (object, View parts) ∷ []
+placed_of (object, KeptView parts) = (object, View parts) ∷ []
 
 -- the changed objects that are there
 abbrev pub changed_objects : Overlay → List (ObjName × Placed)
@@ -34,10 +34,11 @@ changed_objects overlay = flat_map placed_of (finite_map.entries overlay)
 
 abbrev pub after_seen : After → Sight
 after_seen Gone = Nothing
-after_seen Schema = Nothing
+after_seen NewSchema = Nothing
 after_seen (FreshTable parts) = TableThere 0 parts
 after_seen (KeptTable space parts) = TableThere space parts
-after_seen (after.View parts) = ViewThere parts
+after_seen (NewView parts) = ViewThere parts
+after_seen (KeptView parts) = ViewThere parts
 
 abbrev pub object_behind : Option After → Sight → Sight
 object_behind None seen = seen

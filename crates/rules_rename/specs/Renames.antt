@@ -9,15 +9,15 @@ use Rattle.dd_errors.specs.Errors.{ErrorValue}
 use Rattle.dd_definitions.specs.declared.foreign_keys.ForeignKeyDef.{ForeignKeyDef}
 use Rattle.dd_definitions.specs.declared.parts.TableParts.{TableParts}
 use Rattle.dd_definitions.specs.declared.view_parts.ViewParts.{ViewParts}
-use Rattle.ddl_words.specs.declared.session.SessionState.{SessionState}
-use Rattle.ddl_words.specs.declared.statement.RenamePair.{RenamePair}
+use Rattle.sql_ast.specs.declared.session.SessionState.{SessionState}
+use Rattle.sql_ast.specs.declared.table.RenamePair.{RenamePair}
 use Rattle.dd_catalog.specs.Sights.{Sight, Nothing, TableThere, ViewThere}
 use Rattle.dd_catalog.specs.Walks.{Walk, done, refuse, ◌>>=◌, look_at, refuse_if, each, every, over}
 use Rattle.dd_catalog.specs.Catalog.{is_same_object}
-use Rattle.rules_fk.specs.Refusals.{name_too_long, constraint_present}
-use Rattle.rules_fk.specs.ForeignKeys.{is_owned_elsewhere, has_constraint_named}
-use Rattle.ddl_decided.specs.Choices.{After, Gone, KeptTable, View, Choice, Changes}
-use Rattle.rules_named.specs.Refusals.{no_table, schema_changed, table_present, beyond_limit}
+use Rattle.rules_refusals.specs.Refusals.{too_long_ident, fk_dup_name}
+use Rattle.rules_elements.specs.ForeignKeys.{is_owned_elsewhere, has_constraint_named}
+use Rattle.rules_outcome.specs.Choices.{After, Gone, KeptTable, KeptView, Choice, Changes}
+use Rattle.rules_refusals.specs.Refusals.{no_such_table, forbid_schema_change, table_exists, beyond_limit}
 use Rattle.rules_named.specs.Named.{is_nothing, resolved, own_schema_there}
 use Rattle.rules_schema.specs.Drops.{children_seen, is_among}
 use Rattle.rules_create.specs.Tables.{behind, constraint_front, put_in_order}
@@ -42,13 +42,13 @@ renamed_key from to key = with_parent from to (record key { name = renamed_const
 
 -- a constraint's name of more than 64 characters: 1059
 unfoldable pub fits_in_name : ForeignKeyDef → Walk ErrorValue (Unit {0})
-fits_in_name key = refuse_if (nat_lt 64 (length key.name)) (name_too_long key.name)
+fits_in_name key = refuse_if (nat_lt 64 (length key.name)) (too_long_ident key.name)
 
 -- a name that another table of the new schema has, or an own constraint before it: 1826
 unfoldable pub one_free : ObjName → ObjName → List ForeignKeyDef → ForeignKeyDef → Walk ErrorValue (List ForeignKeyDef)
 one_free from to before key = do
   owner ← look_at (keys.Constraint to.schema (fold key.name))
-  _ ← refuse_if (is_owned_elsewhere from owner || has_constraint_named before key.name) (constraint_present key.name)
+  _ ← refuse_if (is_owned_elsewhere from owner || has_constraint_named before key.name) (fk_dup_name key.name)
   done (before ++ key ∷ [])
 
 abbrev pub in_order : List ForeignKeyDef → List ForeignKeyDef
@@ -70,7 +70,7 @@ with_parents from to parts = record parts { foreign_keys = map (with_parent from
 -- a child refers to the table by its new name; what is no table stays
 abbrev pub child_after : ObjName → ObjName → Sight → After
 child_after from to (TableThere space parts) = KeptTable space (with_parents from to parts)
-child_after from to (ViewThere parts) = View parts
+child_after from to (ViewThere parts) = KeptView parts
 child_after from to seen = Gone
 
 unfoldable pub renamed_child : ObjName → ObjName → ObjName → Walk ErrorValue (ObjName × After)
@@ -82,7 +82,7 @@ renamed_child from to child = do
 unfoldable pub name_is_free : ObjName → Walk ErrorValue (Unit {0})
 name_is_free to = do
   seen ← look_at (keys.Object to)
-  refuse_if (not (is_nothing seen)) (table_present to.name)
+  refuse_if (not (is_nothing seen)) (table_exists to.name)
 
 -- what a pair changes, and the children of its table
 pub record Renamed : Type 0 where
@@ -103,14 +103,14 @@ renamed_table from to space parts = do
 -- a view to another schema: 1450
 unfoldable pub renamed_view : ObjName → ObjName → ViewParts → Walk ErrorValue Renamed
 renamed_view from to parts = do
-  _ ← refuse_if (not (bytes_eq from.schema to.schema)) (schema_changed from.schema to.schema)
+  _ ← refuse_if (not (bytes_eq from.schema to.schema)) (forbid_schema_change from.schema to.schema)
   _ ← name_is_free to
-  done (record { changes = (from, Gone) ∷ (to, View (record parts { name = to })) ∷ []; children = [] })
+  done (record { changes = (from, Gone) ∷ (to, KeptView (record parts { name = to })) ∷ []; children = [] })
 
 abbrev pub renamed_seen : ObjName → ObjName → Sight → Walk ErrorValue Renamed
 renamed_seen from to (TableThere space parts) = renamed_table from to space parts
 renamed_seen from to (ViewThere parts) = renamed_view from to parts
-renamed_seen from to seen = refuse (no_table from)
+renamed_seen from to seen = refuse (no_such_table from)
 
 -- Source absent: 1146; a view to another schema: 1450; target present: 1050; its constraints: 1059, 1826. The object has the new
 -- name, its constraints and its children follow.

@@ -1,6 +1,17 @@
 //! RENAME TABLE: what it changes, or is refused for.
 #![tactic(auto)]
 
-mod laws;
+mod all_pairs;
+mod children;
+mod constraints;
+mod foreign_keys;
+mod objects;
+mod one_object;
+mod ordered;
+mod overlay;
+mod owners;
+mod pairs;
+mod put;
+mod statement;
 
-pub use laws::renamed_tables_are_formed;
+pub use statement::rename;

@@ -4,12 +4,12 @@ use Rattle.std.specs.Prelude.{nat_lt}
 use Rattle.std.proofs.lemmas.Bool.Decides.{nat_tests}
 use Rattle.dd_names.specs.declared.object_name.ObjectKey.TheVariants as keys
 use Rattle.dd_errors.specs.Errors.{ErrorValue}
-use Rattle.ddl_words.specs.declared.session.SessionState.{SessionState}
+use Rattle.sql_ast.specs.declared.session.SessionState.{SessionState}
 use Rattle.dd_catalog.specs.Sights.{Sight}
 use Rattle.dd_catalog.specs.Walks.{Walk, done, ◌>>=◌, Found, fine, run, look_at, refuse_if, every}
 use Rattle.dd_catalog.specs.WalkLaws.{Look, run_fine}
-use Rattle.ddl_decided.specs.Choices.{Gone, Change, change, Choice, Changes}
-use Rattle.rules_named.specs.Refusals.{beyond_limit}
+use Rattle.rules_outcome.specs.Choices.{Gone, Change, change, Choice, Changes}
+use Rattle.rules_refusals.specs.Refusals.{beyond_limit}
 use Rattle.rules_named.specs.Named.{object_in}
 use Rattle.rules_schema.specs.Listings.{names_seen}
 use Rattle.rules_schema.specs.Drops.{gone}

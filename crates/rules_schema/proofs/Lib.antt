@@ -1,4 +1,5 @@
 pub mod AllGone
+pub mod Ids
 pub mod Joined
 pub mod Staying
 pub mod Twice

@@ -4,14 +4,14 @@ use Rattle.std.specs.List.{list_any, find}
 use Rattle.dd_names.specs.declared.object_name.ObjName.{ObjName}
 use Rattle.dd_names.specs.declared.object_name.ObjectKey.TheVariants as keys
 use Rattle.dd_errors.specs.Errors.{ErrorValue}
-use Rattle.dd_objects.specs.declared.words.ObjRef.{ObjRef}
+use Rattle.sql_types.specs.declared.words.ObjRef.{ObjRef}
 use Rattle.dd_definitions.specs.declared.foreign_keys.ForeignKeyDef.{ForeignKeyDef}
-use Rattle.ddl_words.specs.declared.session.SessionState.{SessionState}
+use Rattle.sql_ast.specs.declared.session.SessionState.{SessionState}
 use Rattle.dd_catalog.specs.Sights.{Sight, TableThere, ChildrenThere}
 use Rattle.dd_catalog.specs.Walks.{Walk, done, refuse, ◌>>=◌, look_at, refuse_if, refuse_some, every, picked}
 use Rattle.dd_catalog.specs.Catalog.{is_same_object}
-use Rattle.ddl_decided.specs.Choices.{Gone, Change, change, Choice, Same, Changes}
-use Rattle.rules_named.specs.Refusals.{beyond_limit, named_twice, unknown_tables, is_referenced}
+use Rattle.rules_outcome.specs.Choices.{Gone, Change, change, Choice, Same, Changes}
+use Rattle.rules_refusals.specs.Refusals.{beyond_limit, nonuniq_table, bad_table, fk_cannot_drop_parent}
 use Rattle.rules_named.specs.Named.{all_named}
 
 abbrev pub is_table : Sight → Bool
@@ -37,7 +37,7 @@ unfoldable pub refuse_for : ObjName → Option ObjName → Walk ErrorValue (Unit
 refuse_for table None = done tt
 refuse_for table (Some child) = do
   seen ← look_at (keys.Object child)
-  refuse (is_referenced table.name (constraint_on table seen) child.name)
+  refuse (fk_cannot_drop_parent table.name (constraint_on table seen) child.name)
 
 -- the table's least child that doesn't go is 3730
 unfoldable pub no_child_stays : (ObjName → Bool) → ObjName → Walk ErrorValue (Unit {0})
@@ -60,7 +60,7 @@ first_twice before (object ∷ objects) = if is_among before object then Some ob
 
 abbrev pub twice_refused : Option ObjName → Option ErrorValue
 twice_refused None = None
-twice_refused (Some object) = Some (named_twice object.name)
+twice_refused (Some object) = Some (nonuniq_table object.name)
 
 unfoldable pub is_there : ObjName → Walk ErrorValue Bool
 is_there object = do
@@ -82,7 +82,7 @@ is_left_out objects object = not (is_among objects object)
 
 abbrev pub unknown_refused : List ObjName → Option ErrorValue
 unknown_refused [] = None
-unknown_refused (object ∷ objects) = Some (unknown_tables (joined (object ∷ objects)))
+unknown_refused (object ∷ objects) = Some (bad_table (joined (object ∷ objects)))
 
 -- without a table that is there, nothing changes
 abbrev pub tables_gone : SessionState → List ObjName → Choice

@@ -2,15 +2,15 @@
 use Rattle.std.specs.Prelude.{ℕ, List, [], ◌∷◌, ◌++◌, map, Option, Some, None, codes}
 use Rattle.dd_names.specs.declared.object_name.ObjectKey.TheVariants as keys
 use Rattle.dd_errors.specs.Errors.{ErrorValue}
-use Rattle.dd_objects.specs.declared.listing.Cell.{Cell}
-use Rattle.dd_objects.specs.declared.listing.Cell.TheVariants.{Value}
-use Rattle.dd_objects.specs.declared.listing.Listing.{Listing}
-use Rattle.ddl_words.specs.declared.session.SessionState.{SessionState}
+use Rattle.sql_types.specs.declared.listing.Cell.{Cell}
+use Rattle.sql_types.specs.declared.listing.Cell.TheVariants.{Value}
+use Rattle.sql_types.specs.declared.listing.Listing.{Listing}
+use Rattle.sql_ast.specs.declared.session.SessionState.{SessionState}
 use Rattle.dd_catalog.specs.Sights.{Sight, NamesThere}
 use Rattle.dd_catalog.specs.Walks.{Walk, done, refuse, ◌>>=◌, look_at}
-use Rattle.rules_fk.specs.Keys.{first_given}
-use Rattle.ddl_decided.specs.Choices.{Choice, Lists}
-use Rattle.rules_named.specs.Refusals.{no_schema_selected}
+use Rattle.rules_elements.specs.Keys.{first_given}
+use Rattle.rules_outcome.specs.Choices.{Choice, Lists}
+use Rattle.rules_refusals.specs.Refusals.{no_db}
 use Rattle.rules_named.specs.Named.{schema_there}
 
 abbrev pub names_seen : Sight → List (List ℕ)
@@ -32,7 +32,7 @@ show_databases = do
   done (Lists (names_listed (codes "Database") (names_seen seen)))
 
 abbrev pub chosen_schema : Option (List ℕ) → Walk ErrorValue (List ℕ)
-chosen_schema None = refuse no_schema_selected
+chosen_schema None = refuse no_db
 chosen_schema (Some schema) = done schema
 
 -- SHOW TABLES. The tables and views of the schema in byte order.

@@ -5,10 +5,10 @@ use Rattle.dd_names.specs.Reserved.{is_system_schema}
 use Rattle.dd_names.specs.declared.object_name.ObjName.{ObjName}
 use Rattle.dd_names.specs.declared.object_name.ObjectKey.TheVariants as keys
 use Rattle.dd_errors.specs.Errors.{ErrorValue}
-use Rattle.ddl_words.specs.declared.session.SessionState.{SessionState}
+use Rattle.sql_ast.specs.declared.session.SessionState.{SessionState}
 use Rattle.dd_catalog.specs.Walks.{Walk, done, ◌>>=◌, look_at, refuse_if, every}
-use Rattle.ddl_decided.specs.Choices.{Gone, Schema, Change, change, Choice, Changes}
-use Rattle.rules_named.specs.Refusals.{schema_present, schema_absent, beyond_limit}
+use Rattle.rules_outcome.specs.Choices.{Gone, NewSchema, Change, change, Choice, Changes}
+use Rattle.rules_refusals.specs.Refusals.{db_create_exists, db_drop_exists, beyond_limit}
 use Rattle.rules_named.specs.Named.{object_in, is_nothing, unless}
 use Rattle.rules_schema.specs.Listings.{names_seen}
 use Rattle.rules_schema.specs.Drops.{is_table, no_child_stays, gone}
@@ -23,7 +23,7 @@ is_schema_present name = if is_system_schema name then done true else (look_at (
 unfoldable pub create_database : SessionState → Bool → List ℕ → Walk ErrorValue Choice
 create_database session if_not_exists name = do
   present ← is_schema_present name
-  if present then unless if_not_exists (schema_present name) else done (Changes (change (keys.Schema name) Schema ∷ []) session)
+  if present then unless if_not_exists (db_create_exists name) else done (Changes (change (keys.Schema name) NewSchema ∷ []) session)
 
 -- ## DROP DATABASE
 
@@ -59,4 +59,4 @@ schema_gone session name = do
 unfoldable pub drop_database : SessionState → Bool → List ℕ → Walk ErrorValue Choice
 drop_database session if_exists name = do
   seen ← look_at (keys.Schema name)
-  if is_nothing seen then unless if_exists (schema_absent name) else schema_gone session name
+  if is_nothing seen then unless if_exists (db_drop_exists name) else schema_gone session name

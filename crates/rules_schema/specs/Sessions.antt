@@ -1,9 +1,9 @@
 -- USE and SET.
 use Rattle.std.specs.Prelude.{ℕ, min, max, List, [], Some}
 use Rattle.dd_errors.specs.Errors.{ErrorValue}
-use Rattle.ddl_words.specs.declared.session.SessionState.{SessionState}
+use Rattle.sql_ast.specs.declared.session.SessionState.{SessionState}
 use Rattle.dd_catalog.specs.Walks.{Walk, done, ◌>>=◌}
-use Rattle.ddl_decided.specs.Choices.{Choice, Changes}
+use Rattle.rules_outcome.specs.Choices.{Choice, Changes}
 use Rattle.rules_named.specs.Named.{schema_there}
 
 -- USE. The schema becomes current.

@@ -1,43 +1,33 @@
 // DROP TABLE (MySQL 8.0 Reference Manual, 13.1.32).
 ghost use Rattle.std.specs.Prelude.{◌≡◌, [], ◌∷◌, ◌++◌, Option, None, IfOk, OnOk, map, filter, not, if◌then◌else◌};
-ghost use Rattle.std.specs.List.{find};
+ghost use Rattle.std.specs.BTreeSet.{contains};
 ghost use Rattle.std.specs.Option.{option_copied};
 ghost use Rattle.dd_names.specs.declared.object_name.ObjectKey.{ObjectKey as Key};
 ghost use Rattle.dd_catalog.specs.declared.object.Object.{Object as Standing};
+ghost use Rattle.dd_catalog.specs.Catalog.{object_cmp};
 ghost use Rattle.dd_catalog.specs.LoopLaws.{with_picked};
-ghost use Rattle.dd_catalog.specs.Walks.{fine, run, refuse_some, picked, every};
+ghost use Rattle.dd_catalog.specs.Walks.{run, refuse_some, picked, every};
 ghost use Rattle.dd_catalog.specs.WalkLaws.{Look};
 ghost use Rattle.dd_catalog.specs.Follow.{Follows, sights};
-ghost use Rattle.ddl_decided.specs.Decided.{found_of, change_of, AreBefore};
-ghost use Rattle.rules_named.specs.Answers.{Decides, AllBefore};
+ghost use Rattle.rules_outcome.specs.Decided.{Decides, chosen, change_of, AreBefore, HaveIds};
+ghost use Rattle.rules_named.specs.Answers.{AllBefore, AllIds};
 ghost use Rattle.rules_schema.specs.Drops.{is_among, first_twice, twice_refused, is_there, gone, full_name, joined, is_left_out, unknown_refused, no_child_stays, tables_gone, drop_table};
+ghost use Rattle.rules_schema.specs.Going.{goes};
 
-use crate::children::{children_seen, edit_gone, is_table, refuse_for};
-use dd_catalog::{Lookup, Object, Stop};
+use crate::children::{Going, edit_gone, is_table, no_child_stays};
+use crate::name_sets::{first_twice, set_of};
+use dd_catalog::{Lookup, Object, Stop, look_at};
 use dd_names::{List, ObjName, ObjectKey, Text, TryCopy};
-use dd_objects::ObjRef;
-use ddl_decided::{Decided, Edit, Edits};
-use ddl_words::SessionState;
-use rules_fk::is_same_object;
-use rules_named::{add_edit, all_named, decided, known_at, refusals};
+use rules_named::{add_edit, all_named};
+use rules_outcome::{Decided, Edit, Edits};
+use sql_ast::SessionState;
+use sql_types::ObjRef;
 use std::alloc::{AllocError, Global};
+use std::collections::BTreeSet;
 
 /// What DROP TABLE comes to: 1066, 1051 unless IF EXISTS is written, or 3730.
-pub fn drop_table<L: Lookup>(
-    alloc: Global,
-    session: &SessionState,
-    if_exists: bool,
-    tables: &[ObjRef],
-    look: &L,
-) -> Result<Decided, AllocError>
-    ensures exact { IfOk result (λ d. found_of d ≡ run (sights (L.known look.now)) (drop_table session.now if_exists tables.now)) }
-    ensures before { IfOk result (λ d. AreBefore (L.known look.now) d) }
-{
-    decided(tables_dropped(alloc, session, if_exists, tables, look))
-}
-
 #[tactic(auto, using(dd_catalog::specs::WalkLaws::run_bind), unfolding(crate::specs::Drops::drop_table))]
-fn tables_dropped<L: Lookup>(
+pub fn drop_table<L: Lookup>(
     alloc: Global,
     session: &SessionState,
     if_exists: bool,
@@ -46,12 +36,13 @@ fn tables_dropped<L: Lookup>(
 ) -> Result<Decided, Stop>
     ensures exact { Decides result (run (sights (L.known look.now)) (drop_table session.now if_exists refs.now)) }
     ensures before { IfOk result (λ d. AreBefore (L.known look.now) d) }
+    ensures ids { IfOk result (λ d. HaveIds (L.known look.now) d) }
 {
     let objects = all_named(alloc, &session.current, refs, look)?;
     if objects.len() > 65_536 {
-        return Err(Stop::Refused(refusals::beyond_limit(alloc, "65536")?));
+        return Err(rules_refusals::beyond_limit(alloc, "65536")?);
     }
-    twice_refused(alloc, first_twice(objects.as_slice()))?;
+    twice_refused(alloc, first_twice(alloc, objects.as_slice())?)?;
     let tables = tables_there(alloc, objects.as_slice(), look)?;
     let names = tables.names.as_slice();
     left_out_refused(alloc, if_exists, names, objects.as_slice())?;
@@ -59,35 +50,17 @@ fn tables_dropped<L: Lookup>(
     Ok(tables_gone(session, tables)?)
 }
 
-/// The first name that stood before.
-fn first_twice(objects: &[ObjName]) -> Option<&ObjName>
-    ensures { option_copied result ≡ first_twice [] objects.now }
-{
-    'places: for place in 0..objects.len() {
-        if is_among(&objects[..place], &objects[place]) {
-            return Some(&objects[place]);
-        }
-    }
-    None
-}
-
-fn is_among(objects: &[ObjName], object: &ObjName) -> bool
-    ensures { result ≡ is_among objects.now object.now }
-{
-    objects.iter().any(|other| is_same_object(object, other))
-}
-
 fn twice_refused(alloc: Global, twice: Option<&ObjName>) -> Result<(), Stop>
     ensures { (look : Look) → Follows (λ _. tt) result (run look (refuse_some (twice_refused (option_copied twice.entry)))) }
 {
     match twice {
         None => Ok(()),
-        Some(object) => Err(Stop::Refused(refusals::named_twice(alloc, &object.name)?)),
+        Some(object) => Err(rules_refusals::nonuniq_table(alloc, &object.name)?),
     }
 }
 
 /// The tables that are there, and what dropping them changes.
-#[derive(Debug, Drop)]
+#[derive(Drop)]
 struct Tables {
     names: List<ObjName>,
     puts: List<Edit>,
@@ -97,6 +70,7 @@ fn tables_there<L: Lookup>(alloc: Global, objects: &[ObjName], look: &L) -> Resu
     ensures seen { Follows (λ tables. tables.names) result (run (sights (L.known look.now)) (picked is_there objects.now)) }
     ensures changes { IfOk result (λ tables. map change_of tables.puts ≡ map gone tables.names) }
     ensures before { IfOk result (λ tables. AllBefore (L.known look.now) tables.puts) }
+    ensures ids { IfOk result (λ tables. AllIds (L.known look.now) tables.puts) }
 {
     let mut tables = Tables {
         names: List::new(alloc),
@@ -115,9 +89,10 @@ fn pick_table<L: Lookup>(tables: &mut Tables, object: &ObjName, look: &L) -> Res
     ensures names { IfOk result (λ picks. tables.new.names ≡ with_picked picks tables.old.names object.now) }
     ensures changes { map change_of tables.old.puts ≡ map gone tables.old.names → IfOk result (λ _. map change_of tables.new.puts ≡ map gone tables.new.names) }
     ensures before { AllBefore (L.known look.now) tables.old.puts → IfOk result (λ _. AllBefore (L.known look.now) tables.new.puts) }
+    ensures ids { AllIds (L.known look.now) tables.old.puts → IfOk result (λ _. AllIds (L.known look.now) tables.new.puts) }
 {
     let key = ObjectKey::Object(object.copy()?);
-    let seen = known_at(look, &key)?;
+    let seen = look_at(look, &key)?;
     if !is_table(seen) {
         return Ok(false);
     }
@@ -150,21 +125,22 @@ fn left_out(
 ) -> Result<List<ObjName>, AllocError>
     ensures { IfOk result (λ left. left ≡ filter (is_left_out tables.now) objects.now) }
 {
+    let names = set_of(alloc, tables)?;
     let mut left = List::new(alloc);
     'objects: for object in objects {
-        keep_left_out(&mut left, tables, object)?;
+        keep_left_out(&mut left, &names, object)?;
     }
     Ok(left)
 }
 
 fn keep_left_out(
     left: &mut List<ObjName>,
-    tables: &[ObjName],
+    names: &BTreeSet<ObjName>,
     object: &ObjName,
 ) -> Result<(), AllocError>
-    ensures { OnOk result (left.new ≡ (if is_left_out tables.now object.now then left.old ++ object.now ∷ [] else left.old)) }
+    ensures { OnOk result (left.new ≡ (if not (contains object_cmp names.now object.now) then left.old ++ object.now ∷ [] else left.old)) }
 {
-    if !is_among(tables, object) {
+    if !names.contains(object) {
         left.push(object.copy()?)?;
     }
     Ok(())
@@ -177,7 +153,7 @@ fn unknown_refused(alloc: Global, objects: &[ObjName]) -> Result<(), Stop>
         [] => Ok(()),
         [first, others @ ..] => {
             let names = joined(first, others)?;
-            Err(Stop::Refused(refusals::unknown_tables(alloc, names.as_str())?))
+            Err(rules_refusals::bad_table(alloc, names.as_str())?)
         }
     }
 }
@@ -207,37 +183,29 @@ fn full_name(object: &ObjName) -> Result<Text, AllocError>
 fn no_children_stay<L: Lookup>(alloc: Global, tables: &[ObjName], look: &L) -> Result<(), Stop>
     ensures { Follows (λ _. tt) result (run (sights (L.known look.now)) (every (no_child_stays (is_among tables.now)) tables.now)) }
 {
+    let names = set_of(alloc, tables)?;
+    all_without_child(alloc, &Going::Tables(&names), tables, look)
+}
+
+fn all_without_child<L: Lookup>(
+    alloc: Global,
+    going: &Going,
+    tables: &[ObjName],
+    look: &L,
+) -> Result<(), Stop>
+    ensures { Follows (λ _. tt) result (run (sights (L.known look.now)) (every (no_child_stays (goes going.now)) tables.now)) }
+{
     'tables: for table in tables {
-        no_child_stays(alloc, tables, table, look)?;
+        no_child_stays(alloc, going, table, look)?;
     }
     Ok(())
 }
 
-#[tactic(auto, using(dd_catalog::specs::WalkLaws::run_bind), unfolding(crate::specs::Drops::no_child_stays))]
-fn no_child_stays<L: Lookup>(
-    alloc: Global,
-    tables: &[ObjName],
-    table: &ObjName,
-    look: &L,
-) -> Result<(), Stop>
-    ensures { Follows (λ _. tt) result (run (sights (L.known look.now)) (no_child_stays (is_among tables.now) table.now)) }
-{
-    let object = known_at(look, &ObjectKey::Children(table.copy()?))?;
-    let staying = child_outside(tables, children_seen(object));
-    refuse_for(alloc, table, staying, look)
-}
-
-/// The least child that isn't among the tables.
-fn child_outside<'a>(tables: &[ObjName], children: &'a [ObjName]) -> Option<&'a ObjName>
-    ensures { option_copied result ≡ find (λ child. not (is_among tables.now child)) children.now }
-{
-    children.iter().find(|child| !is_among(tables, child))
-}
-
 /// Without a table that is there, nothing changes.
 fn tables_gone(session: &SessionState, tables: Tables) -> Result<Decided, AllocError>
-    ensures exact { map change_of tables.puts ≡ map gone tables.names → IfOk result (λ d. found_of d ≡ fine (tables_gone session.now tables.names)) }
+    ensures exact { map change_of tables.puts ≡ map gone tables.names → IfOk result (λ d. chosen d ≡ tables_gone session.now tables.names) }
     ensures before { (known : Key → Option Standing) → AllBefore known tables.puts → IfOk result (λ d. AreBefore known d) }
+    ensures ids { (known : Key → Option Standing) → AllIds known tables.puts → IfOk result (λ d. HaveIds known d) }
 {
     if tables.names.is_empty() {
         return Ok(Decided::Same);

@@ -4,6 +4,7 @@
 mod children;
 mod drops;
 mod listings;
+mod name_sets;
 mod schemas;
 mod sessions;
 

@@ -5,51 +5,32 @@ ghost use Rattle.dd_catalog.specs.Sights.{sight};
 ghost use Rattle.dd_catalog.specs.Walks.{run};
 ghost use Rattle.dd_catalog.specs.WalkLaws.{Look};
 ghost use Rattle.dd_catalog.specs.Follow.{Follows, sights};
-ghost use Rattle.ddl_decided.specs.Decided.{found_of, AreBefore};
-ghost use Rattle.rules_named.specs.Answers.{Decides};
+ghost use Rattle.rules_outcome.specs.Decided.{Decides, AreBefore, HaveIds};
 ghost use Rattle.rules_schema.specs.Listings.{names_seen, row_of, names_listed, show_databases, chosen_schema, show_tables};
 
-use dd_catalog::{Lookup, Object, Stop};
+use dd_catalog::{Lookup, Object, Stop, look_at};
 use dd_names::{List, Name, ObjectKey, Text, TryCopy};
-use dd_objects::{Cell, ListRow, Listing};
-use ddl_decided::Decided;
-use ddl_words::SessionState;
-use rules_named::{decided, first_given, known_at, refusals, schema_there};
+use rules_named::{first_given, schema_there};
+use rules_outcome::Decided;
+use sql_ast::SessionState;
+use sql_types::{Cell, ListRow, Listing};
 use std::alloc::{AllocError, Global};
 
 /// What SHOW DATABASES comes to: the schemas in byte order.
-pub fn show_databases<L: Lookup>(alloc: Global, look: &L) -> Result<Decided, AllocError>
-    ensures exact { IfOk result (λ d. found_of d ≡ run (sights (L.known look.now)) show_databases) }
-    ensures before { IfOk result (λ d. AreBefore (L.known look.now) d) }
-{
-    decided(schemas_shown(alloc, look))
-}
-
 #[tactic(auto, using(dd_catalog::specs::WalkLaws::run_bind), unfolding(crate::specs::Listings::show_databases))]
-fn schemas_shown<L: Lookup>(alloc: Global, look: &L) -> Result<Decided, Stop>
+pub fn show_databases<L: Lookup>(alloc: Global, look: &L) -> Result<Decided, Stop>
     ensures exact { Decides result (run (sights (L.known look.now)) show_databases) }
     ensures before { IfOk result (λ d. AreBefore (L.known look.now) d) }
+    ensures ids { IfOk result (λ d. HaveIds (L.known look.now) d) }
 {
-    let object = known_at(look, &ObjectKey::Schemas)?;
+    let object = look_at(look, &ObjectKey::Schemas)?;
     let header = Text::of(alloc, "Database")?;
     Ok(Decided::Rows(names_listed(alloc, header, names_seen(object))?))
 }
 
 /// What SHOW TABLES comes to: the tables and views of the schema in byte order; 1046 without a schema, 1049 where it isn't there.
-pub fn show_tables<L: Lookup>(
-    alloc: Global,
-    session: &SessionState,
-    schema: &Option<Name>,
-    look: &L,
-) -> Result<Decided, AllocError>
-    ensures exact { IfOk result (λ d. found_of d ≡ run (sights (L.known look.now)) (show_tables session.now schema.now)) }
-    ensures before { IfOk result (λ d. AreBefore (L.known look.now) d) }
-{
-    decided(tables_shown(alloc, session, schema, look))
-}
-
 #[tactic(auto, using(dd_catalog::specs::WalkLaws::run_bind), unfolding(crate::specs::Listings::show_tables))]
-fn tables_shown<L: Lookup>(
+pub fn show_tables<L: Lookup>(
     alloc: Global,
     session: &SessionState,
     named: &Option<Name>,
@@ -57,10 +38,11 @@ fn tables_shown<L: Lookup>(
 ) -> Result<Decided, Stop>
     ensures exact { Decides result (run (sights (L.known look.now)) (show_tables session.now named.now)) }
     ensures before { IfOk result (λ d. AreBefore (L.known look.now) d) }
+    ensures ids { IfOk result (λ d. HaveIds (L.known look.now) d) }
 {
     let schema = chosen_schema(alloc, first_given(named, &session.current))?;
     schema_there(alloc, schema, look)?;
-    let object = known_at(look, &ObjectKey::Objects(schema.copy()?))?;
+    let object = look_at(look, &ObjectKey::Objects(schema.copy()?))?;
     let header = tables_header(alloc, schema)?;
     Ok(Decided::Rows(names_listed(alloc, header, names_seen(object))?))
 }
@@ -69,7 +51,7 @@ fn chosen_schema<'a>(alloc: Global, schema: Option<&'a Name>) -> Result<&'a Name
     ensures { (look : Look) → Follows (λ chosen. chosen.now) result (run look (chosen_schema (option_copied schema.entry))) }
 {
     match schema {
-        None => Err(Stop::Refused(refusals::no_schema_selected(alloc))),
+        None => Err(rules_refusals::no_db(alloc)),
         Some(schema) => Ok(schema),
     }
 }

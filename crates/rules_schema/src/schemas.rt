@@ -1,45 +1,30 @@
 // CREATE DATABASE and DROP DATABASE (MySQL 8.0 Reference Manual, 13.1.12 and 13.1.24).
-ghost use Rattle.std.specs.Prelude.{◌≡◌, [], ◌∷◌, ◌++◌, Option, Some, IfOk, false, map, not, if◌then◌else◌};
-ghost use Rattle.std.specs.List.{find};
-ghost use Rattle.std.specs.Option.{option_copied};
+ghost use Rattle.std.specs.Prelude.{◌≡◌, [], ◌∷◌, ◌++◌, Option, Some, IfOk, false, map, if◌then◌else◌};
 ghost use Rattle.dd_names.specs.declared.object_name.ObjectKey.{ObjectKey as Key};
 ghost use Rattle.dd_catalog.specs.declared.object.Object.{Object as Standing};
 ghost use Rattle.dd_catalog.specs.declared.object.Object.TheVariants as objects;
 ghost use Rattle.dd_catalog.specs.Sights.{sight};
 ghost use Rattle.dd_catalog.specs.Walks.{run, done, every};
 ghost use Rattle.dd_catalog.specs.Follow.{Follows, sights};
-ghost use Rattle.ddl_decided.specs.Choices.{Gone, change, Changes};
-ghost use Rattle.ddl_decided.specs.Decided.{found_of, change_of, choice_of, IsBefore, AreBefore};
-ghost use Rattle.rules_named.specs.Answers.{Decides, AllBefore};
+ghost use Rattle.rules_outcome.specs.Choices.{Gone, change, Changes};
+ghost use Rattle.rules_outcome.specs.Decided.{Decides, change_of, choice_of, IsBefore, AreBefore, HasIds, HaveIds};
+ghost use Rattle.rules_named.specs.Answers.{AllBefore, AllIds};
 ghost use Rattle.rules_named.specs.Named.{object_in, is_nothing};
 ghost use Rattle.rules_schema.specs.Drops.{is_table, no_child_stays, gone};
 ghost use Rattle.rules_schema.specs.Schemas.{is_schema_present, create_database, is_in, may_go, is_current, without_schema, schema_gone, drop_database};
 
-use crate::children::{children_seen, edit_gone, is_table, refuse_for};
+use crate::children::{Going, edit_gone, is_table, no_child_stays};
 use crate::listings::names_seen;
-use dd_catalog::{Lookup, Object, Stop};
+use dd_catalog::{Lookup, Object, Stop, look_at};
 use dd_names::{List, Name, ObjName, ObjectKey, TryCopy, is_system_schema};
-use ddl_decided::{Decided, Edit, Edits};
-use ddl_words::SessionState;
-use rules_named::{add_edit, decided, known_at, refusals};
+use rules_named::add_edit;
+use rules_outcome::{After, Decided, Edit, Edits};
+use sql_ast::SessionState;
 use std::alloc::{AllocError, Global};
 
 /// What CREATE DATABASE comes to: 1007 where the schema is there, unless IF NOT EXISTS is written.
-pub fn create_database<L: Lookup>(
-    alloc: Global,
-    session: &SessionState,
-    if_not_exists: bool,
-    name: &Name,
-    look: &L,
-) -> Result<Decided, AllocError>
-    ensures exact { IfOk result (λ d. found_of d ≡ run (sights (L.known look.now)) (create_database session.now if_not_exists name.now)) }
-    ensures before { IfOk result (λ d. AreBefore (L.known look.now) d) }
-{
-    decided(schema_made(alloc, session, if_not_exists, name, look))
-}
-
 #[tactic(auto, using(dd_catalog::specs::WalkLaws::run_bind), unfolding(crate::specs::Schemas::create_database))]
-fn schema_made<L: Lookup>(
+pub fn create_database<L: Lookup>(
     alloc: Global,
     session: &SessionState,
     if_not_exists: bool,
@@ -48,19 +33,19 @@ fn schema_made<L: Lookup>(
 ) -> Result<Decided, Stop>
     ensures exact { Decides result (run (sights (L.known look.now)) (create_database session.now if_not_exists name.now)) }
     ensures before { IfOk result (λ d. AreBefore (L.known look.now) d) }
+    ensures ids { IfOk result (λ d. HaveIds (L.known look.now) d) }
 {
     if is_schema_present(name, look)? {
         if if_not_exists {
             return Ok(Decided::Same);
         }
-        return Err(Stop::Refused(refusals::schema_present(alloc, name)?));
+        return Err(rules_refusals::db_create_exists(alloc, name)?);
     }
     let mut puts = List::new(alloc);
     let edit = Edit {
         key: ObjectKey::Schema(name.copy()?),
         before: None,
-        after: Some(Object::Schema { id: 0 }),
-        rebuild: false,
+        after: After::NewSchema,
     };
     add_edit(&mut puts, edit)?;
     Ok(Decided::Edits(Edits {
@@ -78,7 +63,7 @@ fn is_schema_present<L: Lookup>(name: &Name, look: &L) -> Result<bool, Stop>
     if is_system_schema(name.as_str()) {
         return Ok(true);
     }
-    let object = known_at(look, &ObjectKey::Schema(name.copy()?))?;
+    let object = look_at(look, &ObjectKey::Schema(name.copy()?))?;
     Ok(!is_nothing(object))
 }
 
@@ -89,21 +74,8 @@ fn is_nothing(object: &Object) -> bool
 }
 
 /// What DROP DATABASE comes to: 1008 where the schema isn't there, unless IF EXISTS is written, or 3730.
-pub fn drop_database<L: Lookup>(
-    alloc: Global,
-    session: &SessionState,
-    if_exists: bool,
-    name: &Name,
-    look: &L,
-) -> Result<Decided, AllocError>
-    ensures exact { IfOk result (λ d. found_of d ≡ run (sights (L.known look.now)) (drop_database session.now if_exists name.now)) }
-    ensures before { IfOk result (λ d. AreBefore (L.known look.now) d) }
-{
-    decided(schema_dropped(alloc, session, if_exists, name, look))
-}
-
 #[tactic(auto, using(dd_catalog::specs::WalkLaws::run_bind), unfolding(crate::specs::Schemas::drop_database))]
-fn schema_dropped<L: Lookup>(
+pub fn drop_database<L: Lookup>(
     alloc: Global,
     session: &SessionState,
     if_exists: bool,
@@ -112,13 +84,14 @@ fn schema_dropped<L: Lookup>(
 ) -> Result<Decided, Stop>
     ensures exact { Decides result (run (sights (L.known look.now)) (drop_database session.now if_exists name.now)) }
     ensures before { IfOk result (λ d. AreBefore (L.known look.now) d) }
+    ensures ids { IfOk result (λ d. HaveIds (L.known look.now) d) }
 {
-    let object = known_at(look, &ObjectKey::Schema(name.copy()?))?;
+    let object = look_at(look, &ObjectKey::Schema(name.copy()?))?;
     if is_nothing(object) {
         if if_exists {
             return Ok(Decided::Same);
         }
-        return Err(Stop::Refused(refusals::schema_absent(alloc, name)?));
+        return Err(rules_refusals::db_drop_exists(alloc, name)?);
     }
     schema_gone(alloc, session, name, object, look)
 }
@@ -134,11 +107,12 @@ fn schema_gone<L: Lookup>(
 ) -> Result<Decided, Stop>
     ensures exact { Decides result (run (sights (L.known look.now)) (schema_gone session.now name.now)) }
     ensures before { L.known look.now (ObjectKey.Schema name.now) ≡ Some standing.now → IfOk result (λ d. AreBefore (L.known look.now) d) }
+    ensures ids { IfOk result (λ d. HaveIds (L.known look.now) d) }
 {
-    let object = known_at(look, &ObjectKey::Objects(name.copy()?))?;
+    let object = look_at(look, &ObjectKey::Objects(name.copy()?))?;
     let names = names_seen(object);
     if names.len() > 65_536 {
-        return Err(Stop::Refused(refusals::beyond_limit(alloc, "65536")?));
+        return Err(rules_refusals::beyond_limit(alloc, "65536")?);
     }
     let puts = objects_gone(alloc, name, names, look)?;
     Ok(Decided::Edits(with_schema(session, name, puts, standing)?))
@@ -153,6 +127,7 @@ fn with_schema(
 ) -> Result<Edits, AllocError>
     ensures exact { IfOk result (λ edits. choice_of edits ≡ Changes (map change_of puts ++ change (ObjectKey.Schema name.now) Gone ∷ []) (without_schema session.now name.now)) }
     ensures before { (known : Key → Option Standing) → AllBefore known puts → known (ObjectKey.Schema name.now) ≡ Some standing.now → IfOk result (λ edits. AllBefore known edits.puts) }
+    ensures ids { (known : Key → Option Standing) → AllIds known puts → IfOk result (λ edits. AllIds known edits.puts) }
 {
     let mut puts = puts;
     let last = edit_gone(ObjectKey::Schema(name.copy()?), standing)?;
@@ -172,6 +147,7 @@ fn objects_gone<L: Lookup>(
     ensures seen { Follows (λ _. tt) result (run (sights (L.known look.now)) (every (may_go schema.now) names.now)) }
     ensures changes { IfOk result (λ puts. map change_of puts ≡ map (λ name. gone (object_in schema.now name)) names.now) }
     ensures before { IfOk result (λ puts. AllBefore (L.known look.now) puts) }
+    ensures ids { IfOk result (λ puts. AllIds (L.known look.now) puts) }
 {
     let mut puts = List::new(alloc);
     'names: for name in names {
@@ -185,13 +161,14 @@ fn object_gone<L: Lookup>(alloc: Global, schema: &Name, name: &Name, look: &L) -
     ensures seen { Follows (λ _. tt) result (run (sights (L.known look.now)) (may_go schema.now name.now)) }
     ensures change { IfOk result (λ edit. change_of edit ≡ gone (object_in schema.now name.now)) }
     ensures before { IfOk result (λ edit. IsBefore (L.known look.now edit.key) edit.before) }
+    ensures ids { IfOk result (λ edit. HasIds (L.known look.now) edit.key edit.after) }
 {
     let object = ObjName {
         schema: schema.copy()?,
         name: name.copy()?,
     };
     let key = ObjectKey::Object(object.copy()?);
-    let seen = known_at(look, &key)?;
+    let seen = look_at(look, &key)?;
     may_go(alloc, schema, &object, seen, look)?;
     Ok(edit_gone(key, seen)?)
 }
@@ -209,28 +186,7 @@ fn may_go<L: Lookup>(
     if !is_table(seen) {
         return Ok(());
     }
-    no_child_stays(alloc, schema, object, look)
-}
-
-#[tactic(auto, using(dd_catalog::specs::WalkLaws::run_bind), unfolding(crate::specs::Drops::no_child_stays))]
-fn no_child_stays<L: Lookup>(
-    alloc: Global,
-    schema: &Name,
-    table: &ObjName,
-    look: &L,
-) -> Result<(), Stop>
-    ensures { Follows (λ _. tt) result (run (sights (L.known look.now)) (no_child_stays (is_in schema.now) table.now)) }
-{
-    let object = known_at(look, &ObjectKey::Children(table.copy()?))?;
-    let outside = child_outside(schema, children_seen(object));
-    refuse_for(alloc, table, outside, look)
-}
-
-/// The least child of another schema.
-fn child_outside<'a>(schema: &Name, children: &'a [ObjName]) -> Option<&'a ObjName>
-    ensures { option_copied result ≡ find (λ child. not (is_in schema.now child)) children.now }
-{
-    children.iter().find(|child| child.schema != *schema)
+    no_child_stays(alloc, &Going::Schema(schema), object, look)
 }
 
 /// The current schema is none if it was this one.

@@ -1,33 +1,20 @@
 // USE and SET (MySQL 8.0 Reference Manual, 13.8.4 and 5.1.8).
-ghost use Rattle.std.specs.Prelude.{◌≡◌, IfOk};
+ghost use Rattle.std.specs.Prelude.{IfOk};
 ghost use Rattle.dd_catalog.specs.Walks.{run};
 ghost use Rattle.dd_catalog.specs.Follow.{sights};
-ghost use Rattle.ddl_decided.specs.Decided.{found_of, AreBefore};
-ghost use Rattle.rules_named.specs.Answers.{Decides};
+ghost use Rattle.rules_outcome.specs.Decided.{Decides, AreBefore, HaveIds};
 ghost use Rattle.rules_schema.specs.Sessions.{use_schema, set_tries};
 
 use dd_catalog::{Lookup, Stop};
 use dd_names::{List, Name, TryCopy};
-use ddl_decided::{Decided, Edits};
-use ddl_words::SessionState;
-use rules_named::{decided, schema_there};
-use std::alloc::{AllocError, Global};
+use rules_named::schema_there;
+use rules_outcome::{Decided, Edits};
+use sql_ast::SessionState;
+use std::alloc::Global;
 
 /// What USE comes to: 1049 where the schema isn't there.
-pub fn use_schema<L: Lookup>(
-    alloc: Global,
-    session: &SessionState,
-    name: &Name,
-    look: &L,
-) -> Result<Decided, AllocError>
-    ensures exact { IfOk result (λ d. found_of d ≡ run (sights (L.known look.now)) (use_schema session.now name.now)) }
-    ensures before { IfOk result (λ d. AreBefore (L.known look.now) d) }
-{
-    decided(schema_used(alloc, session, name, look))
-}
-
 #[tactic(auto, using(dd_catalog::specs::WalkLaws::run_bind), unfolding(crate::specs::Sessions::use_schema))]
-fn schema_used<L: Lookup>(
+pub fn use_schema<L: Lookup>(
     alloc: Global,
     session: &SessionState,
     name: &Name,
@@ -35,6 +22,7 @@ fn schema_used<L: Lookup>(
 ) -> Result<Decided, Stop>
     ensures exact { Decides result (run (sights (L.known look.now)) (use_schema session.now name.now)) }
     ensures before { IfOk result (λ d. AreBefore (L.known look.now) d) }
+    ensures ids { IfOk result (λ d. HaveIds (L.known look.now) d) }
 {
     schema_there(alloc, name, look)?;
     let session = SessionState {
@@ -55,9 +43,10 @@ pub fn set_tries<L: Lookup>(
     session: &SessionState,
     value: u128,
     look: &L,
-) -> Result<Decided, AllocError>
-    ensures exact { IfOk result (λ d. found_of d ≡ run (sights (L.known look.now)) (set_tries session.now value)) }
+) -> Result<Decided, Stop>
+    ensures exact { Decides result (run (sights (L.known look.now)) (set_tries session.now value)) }
     ensures before { IfOk result (λ d. AreBefore (L.known look.now) d) }
+    ensures ids { IfOk result (λ d. HaveIds (L.known look.now) d) }
 {
     let session = SessionState {
         number: session.number,

@@ -1,8 +1,8 @@
 -- Listings of one name and one text.
 use Rattle.std.specs.Prelude.{ℕ, List, [], ◌∷◌, codes}
-use Rattle.dd_objects.specs.declared.listing.Cell.{Cell}
-use Rattle.dd_objects.specs.declared.listing.Cell.TheVariants.{Value}
-use Rattle.dd_objects.specs.declared.listing.Listing.{Listing}
+use Rattle.sql_types.specs.declared.listing.Cell.{Cell}
+use Rattle.sql_types.specs.declared.listing.Cell.TheVariants.{Value}
+use Rattle.sql_types.specs.declared.listing.Listing.{Listing}
 use Rattle.dd_definitions.specs.declared.parts.TableParts.{TableParts}
 use Rattle.dd_definitions.specs.declared.view_parts.ViewParts.{ViewParts}
 use Rattle.show_text.specs.Tables.{table_text, database_text}

@@ -3,15 +3,14 @@ use Rattle.std.specs.Prelude.{ℕ, List}
 use Rattle.dd_names.specs.declared.object_name.ObjName.{ObjName}
 use Rattle.dd_names.specs.declared.object_name.ObjectKey.TheVariants as keys
 use Rattle.dd_errors.specs.Errors.{ErrorValue}
-use Rattle.dd_objects.specs.declared.words.ObjRef.{ObjRef}
-use Rattle.ddl_words.specs.declared.session.SessionState.{SessionState}
+use Rattle.sql_types.specs.declared.words.ObjRef.{ObjRef}
+use Rattle.sql_ast.specs.declared.session.SessionState.{SessionState}
 use Rattle.dd_catalog.specs.Sights.{Sight, TableThere, ViewThere}
 use Rattle.dd_catalog.specs.Walks.{Walk, done, refuse, ◌>>=◌, look_at}
-use Rattle.ddl_decided.specs.Choices.{Choice, Lists}
-use Rattle.rules_named.specs.Refusals.{no_table}
+use Rattle.rules_outcome.specs.Choices.{Choice, Lists}
+use Rattle.rules_refusals.specs.Refusals.{no_such_table, wrong_object}
 use Rattle.rules_named.specs.Named.{schema_there, one_named}
 use Rattle.rules_show.specs.Listings.{database_listed, table_listed, view_listed}
-use Rattle.rules_show.specs.Refusals.{is_no_view}
 
 -- SHOW CREATE DATABASE. A schema that isn't there: 1049. Its name and its text.
 unfoldable pub show_create_database : List ℕ → Walk ErrorValue Choice
@@ -23,11 +22,11 @@ show_create_database name = do
 abbrev pub object_shown : ObjName → Sight → Walk ErrorValue Choice
 object_shown object (TableThere space parts) = done (Lists (table_listed parts))
 object_shown object (ViewThere parts) = done (Lists (view_listed parts))
-object_shown object seen = refuse (no_table object)
+object_shown object seen = refuse (no_such_table object)
 
 -- A table: 1347. Else as SHOW CREATE TABLE shows it.
 abbrev pub view_shown : ObjName → Sight → Walk ErrorValue Choice
-view_shown object (TableThere space parts) = refuse (is_no_view object)
+view_shown object (TableThere space parts) = refuse (wrong_object object)
 view_shown object seen = object_shown object seen
 
 -- SHOW CREATE TABLE. No schema is written, and none is current: 1046. A schema that isn't there: 1049. Then the object is looked

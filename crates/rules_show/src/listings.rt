@@ -1,12 +1,12 @@
 // Listings of one name and one text.
 ghost use Rattle.std.specs.Prelude.{◌≡◌, [], ◌∷◌, IfOk};
-ghost use Rattle.dd_objects.specs.declared.listing.Cell.TheVariants as cells;
+ghost use Rattle.sql_types.specs.declared.listing.Cell.TheVariants as cells;
 ghost use Rattle.rules_show.specs.Listings.{text_listed, database_listed, table_listed, view_listed};
 
 use dd_definitions::{TableDef, ViewDef};
 use dd_names::{List, Name, Text};
-use dd_objects::{Cell, ListRow, Listing};
 use show_text::{show_schema, show_table, show_view};
+use sql_types::{Cell, ListRow, Listing};
 use std::alloc::{AllocError, Global};
 
 /// A schema's name and its text.

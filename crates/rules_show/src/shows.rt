@@ -6,37 +6,29 @@ ghost use Rattle.dd_catalog.specs.Sights.{sight};
 ghost use Rattle.dd_catalog.specs.Walks.{run};
 ghost use Rattle.dd_catalog.specs.WalkLaws.{Look};
 ghost use Rattle.dd_catalog.specs.Follow.{sights};
-ghost use Rattle.ddl_decided.specs.Decided.{found_of, AreBefore};
-ghost use Rattle.rules_named.specs.Answers.{Decides};
+ghost use Rattle.rules_outcome.specs.Decided.{Decides, AreBefore, HaveIds};
 ghost use Rattle.rules_show.specs.Shows.{show_create_database, object_shown, view_shown, show_create_table, show_create_view};
 
 use crate::listings::{database_listed, table_listed, view_listed};
-use crate::refusals::is_no_view;
-use dd_catalog::{Lookup, Object, Stop};
+use dd_catalog::{Lookup, Object, Stop, look_at};
 use dd_names::{Name, ObjName, ObjectKey, TryCopy};
-use dd_objects::ObjRef;
-use ddl_decided::Decided;
-use ddl_words::SessionState;
-use rules_named::refusals::no_table;
-use rules_named::{decided, known_at, one_named, schema_there};
+use rules_named::{one_named, schema_there};
+use rules_outcome::Decided;
+use rules_refusals::{no_such_table, wrong_object};
+use sql_ast::SessionState;
+use sql_types::ObjRef;
 use std::alloc::{AllocError, Global};
 
 /// What SHOW CREATE DATABASE comes to: the schema's name and its text; 1049 where it isn't there.
+#[tactic(auto, using(dd_catalog::specs::WalkLaws::run_bind), unfolding(crate::specs::Shows::show_create_database))]
 pub fn show_create_database<L: Lookup>(
     alloc: Global,
     name: &Name,
     look: &L,
-) -> Result<Decided, AllocError>
-    ensures exact { IfOk result (λ d. found_of d ≡ run (sights (L.known look.now)) (show_create_database name.now)) }
-    ensures before { IfOk result (λ d. AreBefore (L.known look.now) d) }
-{
-    decided(schema_shown(alloc, name, look))
-}
-
-#[tactic(auto, using(dd_catalog::specs::WalkLaws::run_bind), unfolding(crate::specs::Shows::show_create_database))]
-fn schema_shown<L: Lookup>(alloc: Global, name: &Name, look: &L) -> Result<Decided, Stop>
+) -> Result<Decided, Stop>
     ensures exact { Decides result (run (sights (L.known look.now)) (show_create_database name.now)) }
     ensures before { IfOk result (λ d. AreBefore (L.known look.now) d) }
+    ensures ids { IfOk result (λ d. HaveIds (L.known look.now) d) }
 {
     schema_there(alloc, name, look)?;
     Ok(Decided::Rows(database_listed(alloc, name)?))
@@ -44,20 +36,8 @@ fn schema_shown<L: Lookup>(alloc: Global, name: &Name, look: &L) -> Result<Decid
 
 /// What SHOW CREATE TABLE comes to: the table's name and its text, or what SHOW CREATE VIEW shows of a view; 1046 without a
 /// schema, 1049 where it isn't there, and 1146 where the object isn't there.
-pub fn show_create_table<L: Lookup>(
-    alloc: Global,
-    session: &SessionState,
-    table: &ObjRef,
-    look: &L,
-) -> Result<Decided, AllocError>
-    ensures exact { IfOk result (λ d. found_of d ≡ run (sights (L.known look.now)) (show_create_table session.now table.now)) }
-    ensures before { IfOk result (λ d. AreBefore (L.known look.now) d) }
-{
-    decided(named_object_shown(alloc, session, table, look))
-}
-
 #[tactic(auto, using(dd_catalog::specs::WalkLaws::run_bind), unfolding(crate::specs::Shows::show_create_table))]
-fn named_object_shown<L: Lookup>(
+pub fn show_create_table<L: Lookup>(
     alloc: Global,
     session: &SessionState,
     table: &ObjRef,
@@ -65,9 +45,10 @@ fn named_object_shown<L: Lookup>(
 ) -> Result<Decided, Stop>
     ensures exact { Decides result (run (sights (L.known look.now)) (show_create_table session.now table.now)) }
     ensures before { IfOk result (λ d. AreBefore (L.known look.now) d) }
+    ensures ids { IfOk result (λ d. HaveIds (L.known look.now) d) }
 {
     let object = one_named(alloc, &session.current, table, look)?;
-    let standing = known_at(look, &ObjectKey::Object(object.copy()?))?;
+    let standing = look_at(look, &ObjectKey::Object(object.copy()?))?;
     object_shown(alloc, &object, standing)
 }
 
@@ -75,30 +56,19 @@ fn named_object_shown<L: Lookup>(
 fn object_shown(alloc: Global, object: &ObjName, standing: &Object) -> Result<Decided, Stop>
     ensures exact { (look : Look) → Decides result (run look (object_shown object.now (sight standing.now))) }
     ensures before { (known : Key → Option Standing) → IfOk result (λ d. AreBefore known d) }
+    ensures ids { (known : Key → Option Standing) → IfOk result (λ d. HaveIds known d) }
 {
     match standing {
         Object::Table { def, .. } => Ok(Decided::Rows(table_listed(alloc, def)?)),
         Object::View { def, .. } => Ok(Decided::Rows(view_listed(alloc, def)?)),
-        _ => Err(Stop::Refused(no_table(alloc, object)?)),
+        _ => Err(no_such_table(alloc, object)?),
     }
 }
 
 /// What SHOW CREATE VIEW comes to: the view's name and its text; 1046 without a schema, 1049 where it isn't there, 1347 for a
 /// table, and 1146 where the object isn't there.
-pub fn show_create_view<L: Lookup>(
-    alloc: Global,
-    session: &SessionState,
-    view: &ObjRef,
-    look: &L,
-) -> Result<Decided, AllocError>
-    ensures exact { IfOk result (λ d. found_of d ≡ run (sights (L.known look.now)) (show_create_view session.now view.now)) }
-    ensures before { IfOk result (λ d. AreBefore (L.known look.now) d) }
-{
-    decided(named_view_shown(alloc, session, view, look))
-}
-
 #[tactic(auto, using(dd_catalog::specs::WalkLaws::run_bind), unfolding(crate::specs::Shows::show_create_view))]
-fn named_view_shown<L: Lookup>(
+pub fn show_create_view<L: Lookup>(
     alloc: Global,
     session: &SessionState,
     view: &ObjRef,
@@ -106,9 +76,10 @@ fn named_view_shown<L: Lookup>(
 ) -> Result<Decided, Stop>
     ensures exact { Decides result (run (sights (L.known look.now)) (show_create_view session.now view.now)) }
     ensures before { IfOk result (λ d. AreBefore (L.known look.now) d) }
+    ensures ids { IfOk result (λ d. HaveIds (L.known look.now) d) }
 {
     let object = one_named(alloc, &session.current, view, look)?;
-    let standing = known_at(look, &ObjectKey::Object(object.copy()?))?;
+    let standing = look_at(look, &ObjectKey::Object(object.copy()?))?;
     view_shown(alloc, &object, standing)
 }
 
@@ -116,9 +87,10 @@ fn named_view_shown<L: Lookup>(
 fn view_shown(alloc: Global, object: &ObjName, standing: &Object) -> Result<Decided, Stop>
     ensures exact { (look : Look) → Decides result (run look (view_shown object.now (sight standing.now))) }
     ensures before { (known : Key → Option Standing) → IfOk result (λ d. AreBefore known d) }
+    ensures ids { (known : Key → Option Standing) → IfOk result (λ d. HaveIds known d) }
 {
     match standing {
-        Object::Table { .. } => Err(Stop::Refused(is_no_view(alloc, object)?)),
+        Object::Table { .. } => Err(wrong_object(alloc, object)?),
         _ => object_shown(alloc, object, standing),
     }
 }

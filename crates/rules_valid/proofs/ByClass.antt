@@ -4,8 +4,8 @@ use Rattle.std.specs.List.{list_any, list_all}
 use Rattle.std.proofs.Common.{sym, ◌∙◌, arith}
 use Rattle.std.proofs.lemmas.Bool.{true≢false, and_parts, and_from, or_parts, or_from, not-true, not_from_false, true_from_ne_false, eq-eqb}
 use Rattle.std.proofs.lemmas.List.Folds.{list_all-append}
-use Rattle.dd_objects.specs.declared.choices.IndexClass.{IndexClass}
-use Rattle.dd_objects.specs.declared.choices.IndexClass.TheVariants as classes
+use Rattle.sql_types.specs.declared.choices.IndexClass.{IndexClass}
+use Rattle.sql_types.specs.declared.choices.IndexClass.TheVariants as classes
 use Rattle.dd_definitions.specs.Indexes.{has_nullable, class_rank, rank}
 use Rattle.dd_definitions.specs.declared.columns.ColumnDef.{ColumnDef}
 use Rattle.dd_definitions.specs.declared.indexes.IndexDef.{IndexDef}

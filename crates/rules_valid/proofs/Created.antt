@@ -9,6 +9,7 @@ use Rattle.std.proofs.lemmas.Bool.{true≢false, and_from, false_from_ne_true, c
 use Rattle.dd_names.specs.Names.{fold}
 use Rattle.dd_names.specs.declared.object_name.ObjName.{ObjName}
 use Rattle.dd_definitions.specs.ForeignKeys.{has_index_on}
+use Rattle.dd_definitions.specs.Named.{has_names}
 use Rattle.dd_definitions.specs.WellFormed.{is_well_formed}
 use Rattle.dd_definitions.specs.declared.columns.ColumnDef.{ColumnDef}
 use Rattle.dd_definitions.specs.declared.indexes.IndexDef.{IndexDef}
@@ -17,13 +18,14 @@ use Rattle.dd_definitions.specs.declared.parts.TableParts.{TableParts}
 use Rattle.dd_catalog.specs.Kinds.{first_odd_pair, sets_null, first_not_null}
 use Rattle.dd_catalog.specs.Sights.{Sight, OwnerThere}
 use Rattle.dd_catalog.specs.Catalog.{Catalog, Placed, Table, View, is_same_object, has_constraint, owner_among}
-use Rattle.ddl_decided.specs.Choices.{IsNewSpace}
-use Rattle.dd_catalog.specs.Valid.{Has, IsValid, own_name, is_placed_formed, are_columns_paired, is_parent_fit, are_parents_fit}
+use Rattle.rules_outcome.specs.Choices.{IsNewSpace}
+use Rattle.dd_catalog.specs.Valid.{Has, IsValid, own_name, is_placed_named, is_placed_formed, are_columns_paired, is_parent_fit, are_parents_fit}
+use Rattle.dd_catalog.proofs.ObjectNames.{same_object, get_inserted}
 use Rattle.rules_named.specs.Named.{is_nothing}
 use Rattle.rules_create.proofs.Lists.{all_weaker, some_passes}
 use Rattle.rules_create.proofs.Names.{bytes_are, bytes_same}
 use Rattle.rules_valid.proofs.Gone.{parents_stay}
-use Rattle.rules_valid.proofs.Objects.{same_object, get_inserted, IsIn, entry_in}
+use Rattle.rules_valid.proofs.Objects.{IsIn, entry_in}
 
 -- ## What the new table has
 
@@ -49,6 +51,7 @@ pub record IsNewTable (cat : Catalog) (table : ObjName) (parts : TableParts) : T
   pub schema : finite_map.contains_key cat.schemas table.schema ≡ true
   pub absent : finite_map.get cat.objects table ≡ None
   pub named : parts.name ≡ table
+  pub names : has_names parts ≡ true
   pub formed : is_well_formed parts ≡ true
   pub free : list_all (is_free cat table) parts.foreign_keys ≡ true
   pub fit : list_all (is_fit cat table parts.columns parts.indexes) parts.foreign_keys ≡ true
@@ -142,6 +145,10 @@ module _ (cat : Catalog) (space : ℕ) (table : ObjName) (parts : TableParts) (v
   name_is q placed (inl made) = ap own_name made.1 ∙ new.named ∙ sym made.0
   name_is q placed (inr before) = valid.names_carried q placed before
 
+  names_are : (q : ObjName) (placed : Placed) → IsNewOrOld cat space table parts q placed → is_placed_named placed ≡ true
+  names_are q placed (inl made) = ap is_placed_named made.1 ∙ new.names
+  names_are q placed (inr before) = valid.named q placed before
+
   form_is : (q : ObjName) (placed : Placed) → IsNewOrOld cat space table parts q placed → is_placed_formed placed ≡ true
   form_is q placed (inl made) = ap is_placed_formed made.1 ∙ new.formed
   form_is q placed (inr before) = valid.formed q placed before
@@ -180,6 +187,8 @@ module _ (cat : Catalog) (space : ℕ) (table : ObjName) (parts : TableParts) (v
   pub with_table_valid : IsValid (with_table cat space table parts)
   with_table_valid = record {
     own_schemas = λ name there. valid.own_schemas name there;
+    schemas_named = λ name there. valid.schemas_named name there;
+    named = λ name placed has. names_are name placed (split name placed has);
     schemas_there = λ name placed has. schema_is name placed (split name placed has);
     names_carried = λ name placed has. name_is name placed (split name placed has);
     formed = λ name placed has. form_is name placed (split name placed has);

@@ -7,23 +7,24 @@ use Rattle.std.proofs.Common.{sym, ◌∙◌, ap, subst, inl, inr}
 use Rattle.std.proofs.lemmas.Bool.{true≢false, and_parts, or_from, or_left, or_right, or_cases, and_from, false_from_ne_true}
 use Rattle.dd_names.specs.declared.object_name.ObjName.{ObjName}
 use Rattle.dd_errors.specs.Errors.{ErrorValue}
-use Rattle.dd_objects.specs.declared.words.ObjRef.{ObjRef}
+use Rattle.sql_types.specs.declared.words.ObjRef.{ObjRef}
 use Rattle.dd_definitions.specs.declared.parts.TableParts.{TableParts}
-use Rattle.ddl_words.specs.declared.session.SessionState.{SessionState}
+use Rattle.sql_ast.specs.declared.session.SessionState.{SessionState}
 use Rattle.dd_catalog.specs.Catalog.{Catalog, Placed, Table, is_same_object, refers_to, names_among, children_among, object_seen, schema_seen, all_of}
 use Rattle.dd_catalog.specs.Valid.{Has, IsValid}
 use Rattle.dd_catalog.specs.Walks.{Walk, done, fine, run, refuse_if, refuse_some, every, picked}
 use Rattle.dd_catalog.specs.WalkLaws.{Look}
 use Rattle.dd_catalog.specs.Asked.{fine_is, bind_fine}
-use Rattle.ddl_decided.specs.Choices.{Choice, applied, catalog_behind}
-use Rattle.rules_named.specs.Refusals.{beyond_limit, schema_absent}
+use Rattle.dd_catalog.proofs.ObjectNames.{same_object}
+use Rattle.rules_outcome.specs.Choices.{Choice, applied, catalog_behind}
+use Rattle.rules_refusals.specs.Refusals.{beyond_limit, db_drop_exists}
 use Rattle.rules_named.specs.Named.{object_in, is_nothing, all_named, unless}
 use Rattle.rules_schema.specs.Drops.{is_table, refuse_for, no_child_stays, gone, is_among, first_twice, twice_refused, is_there, is_left_out, unknown_refused, tables_gone, drop_table}
 use Rattle.rules_schema.specs.Schemas.{is_in, may_go, all_gone, schema_gone, drop_database}
 use Rattle.rules_create.proofs.Names.{bytes_are}
 use Rattle.rules_valid.specs.Keeps.{KeepsValid}
 use Rattle.rules_valid.proofs.Gone.{IsWithout, without_valid, removed, get_removed}
-use Rattle.rules_valid.proofs.Objects.{same_object, IsIn, any_in, entry_in, name_in, child_goes}
+use Rattle.rules_valid.proofs.Objects.{IsIn, any_in, entry_in, name_in, child_goes}
 use Rattle.rules_valid.proofs.Readings.{unless_valid}
 use Rattle.rules_valid.proofs.Schemas.{contains_without}
 
@@ -172,6 +173,6 @@ drop_database_keeps session if_exists name = record {
       on cat space choice valid (is_nothing (schema_seen (finite_map.contains_key cat.schemas name))) is;
 }
   where
-    on : (cat : Catalog) (space : ℕ) (choice : Choice) → IsValid cat → (b : Bool) → run (all_of cat) (if b then unless if_exists (schema_absent name) else schema_gone session name) ≡ fine choice → IsValid (catalog_behind space choice cat)
-    on cat space choice valid true is = unless_valid (all_of cat) if_exists (schema_absent name) cat space choice valid is
+    on : (cat : Catalog) (space : ℕ) (choice : Choice) → IsValid cat → (b : Bool) → run (all_of cat) (if b then unless if_exists (db_drop_exists name) else schema_gone session name) ≡ fine choice → IsValid (catalog_behind space choice cat)
+    on cat space choice valid true is = unless_valid (all_of cat) if_exists (db_drop_exists name) cat space choice valid is
     on cat space choice valid false is = gone_keeps session name cat space choice valid is

@@ -9,14 +9,15 @@ use Rattle.std.proofs.lemmas.List.Folds.{list_all-append}
 use Rattle.dd_names.specs.Names.{fold}
 use Rattle.dd_names.specs.declared.object_name.ObjName.{ObjName}
 use Rattle.dd_names.specs.declared.object_name.ObjectKey.TheVariants as keys
-use Rattle.dd_objects.specs.declared.words.ColumnWords.{ColumnWords}
-use Rattle.dd_objects.specs.declared.words.KeyWords.{KeyWords}
-use Rattle.dd_objects.specs.declared.words.FkWords.{FkWords}
-use Rattle.ddl_words.specs.declared.element.Element.{Element}
+use Rattle.sql_types.specs.declared.words.ColumnWords.{ColumnWords}
+use Rattle.sql_types.specs.declared.words.KeyWords.{KeyWords}
+use Rattle.sql_types.specs.declared.words.FkWords.{FkWords}
+use Rattle.sql_ast.specs.declared.element.Element.{Element}
 use Rattle.dd_definitions.specs.Columns.{is_same_column, is_column}
 use Rattle.dd_definitions.specs.Distinct.{are_distinct}
 use Rattle.dd_definitions.specs.ForeignKeys.{has_index_on}
 use Rattle.dd_definitions.specs.Indexes.{is_primary_class, is_primary}
+use Rattle.dd_definitions.specs.Named.{has_names}
 use Rattle.dd_definitions.specs.WellFormed.{is_well_formed}
 use Rattle.dd_definitions.specs.declared.columns.ColumnDef.{ColumnDef}
 use Rattle.dd_definitions.specs.declared.indexes.IndexDef.{IndexDef}
@@ -28,14 +29,15 @@ use Rattle.dd_catalog.specs.Valid.{IsValid, are_columns_paired}
 use Rattle.dd_catalog.specs.Walks.{done, ◌>>=◌, fine, run, refuse_if, over}
 use Rattle.dd_catalog.specs.WalkLaws.{Look}
 use Rattle.dd_catalog.specs.Asked.{fine_is, bind_fine, over_keeps}
-use Rattle.rules_fk.specs.ForeignKeys.{foreign_key_of}
-use Rattle.rules_fk.specs.Keys.{key_columns, allowed_name, given_name, key_name, key_of}
-use Rattle.rules_fk.specs.Refusals.{second_primary, too_many_columns}
-use Rattle.rule_laws.specs.Parents.{IsSpelledWell, IsKeyFit}
-use Rattle.rule_laws.proofs.KeysFit.{foreign_keys_are_fit}
-use Rattle.rule_laws.proofs.Spelled.{some_is}
-use Rattle.rule_laws.proofs.WellSpelled.{well_spelled}
-use Rattle.rules_named.specs.Refusals as refusals
+use Rattle.dd_catalog.proofs.ObjectNames.{same_object, object_itself}
+use Rattle.rules_elements.specs.ForeignKeys.{foreign_key_of}
+use Rattle.rules_elements.specs.Keys.{key_columns, allowed_name, given_name, key_name, key_of}
+use Rattle.rules_refusals.specs.Refusals.{multiple_pri_key, too_many_key_parts}
+use Rattle.rules_elements_laws.specs.Parents.{IsSpelledWell, IsKeyFit}
+use Rattle.rules_elements_laws.proofs.KeysFit.{foreign_keys_are_fit}
+use Rattle.rules_elements_laws.proofs.Spelled.{some_is}
+use Rattle.rules_elements_laws.proofs.WellSpelled.{well_spelled}
+use Rattle.rules_refusals.specs.Refusals as refusals
 use Rattle.rules_named.specs.Named.{is_nothing}
 use Rattle.rules_create.specs.Tables.{column_in, foreign_key_in, all_keys, all_columns, is_null_written, never_null, with_index, some_columns, one_key, constraint_name, key_for, with_key_index, name_in_text, put_in_order, key_named, one_foreign_key, by_class, within_limits, of_columns, table_of}
 use Rattle.rules_create.proofs.Formed.{table_is_formed, table_has_name}
@@ -43,7 +45,7 @@ use Rattle.rules_create.proofs.Lists.{all_weaker, any_in_front}
 use Rattle.rules_create.proofs.Order.{put_all}
 use Rattle.rules_valid.proofs.ByClass.{before_by_class, some_by_class}
 use Rattle.rules_valid.proofs.Created.{is_free, are_paired, fits_other, is_fit, IsNewTable}
-use Rattle.rules_valid.proofs.Objects.{same_object, object_itself, not_found}
+use Rattle.rules_valid.proofs.Objects.{not_found}
 
 -- ## Keys make no foreign key
 
@@ -56,7 +58,7 @@ unfolding one_key with_index
 one_keyed look table written parts words next so_far is =
     let (_, some, after_some) = bind_fine look (some_columns words.columns) _ next is in
     let (index, made, after_index) = bind_fine look (key_of parts words) _ next after_some in
-    let (_, not_null, last) = bind_fine look (refuse_if (is_primary index && list_any (is_null_written written) index.columns) refusals.null_in_primary) _ next after_index in
+    let (_, not_null, last) = bind_fine look (refuse_if (is_primary index && list_any (is_null_written written) index.columns) refusals.primary_cant_have_null) _ next after_index in
     subst (IsKeyed table) (fine_is last) (record { name = so_far.name; none = so_far.none })
 
 -- ## The index of a foreign key
@@ -64,9 +66,9 @@ one_keyed look table written parts words next so_far is =
 class_is : (look : Look) (parts : TableParts) (key : KeyWords) (index : IndexDef) → run look (key_of parts key) ≡ fine index → index.class ≡ key.class
 unfolding key_of
 class_is look parts key index is =
-    let (_, single, after_single) = bind_fine look (refuse_if (is_primary_class key.class && list_any is_primary parts.indexes) second_primary) _ index is in
+    let (_, single, after_single) = bind_fine look (refuse_if (is_primary_class key.class && list_any is_primary parts.indexes) multiple_pri_key) _ index is in
     let (_, allowed, after_allowed) = bind_fine look (allowed_name (is_primary_class key.class) (given_name key)) _ index after_single in
-    let (_, few, after_few) = bind_fine look (refuse_if (nat_lt 16 (length key.columns)) too_many_columns) _ index after_allowed in
+    let (_, few, after_few) = bind_fine look (refuse_if (nat_lt 16 (length key.columns)) too_many_key_parts) _ index after_allowed in
     let (columns, found, after_columns) = bind_fine look (key_columns parts.columns key.columns) _ index after_few in
     let (name, named, last) = bind_fine look (key_name parts (is_primary_class key.class) (given_name key) columns) _ index after_columns in
     ap (λ (i : IndexDef). i.class) (sym (fine_is last))
@@ -126,7 +128,7 @@ still_fit cat table parts indexed larger key fit =
 
 -- ## The parent of a new foreign key
 
-table_seen_is : (found : Option Placed) (space : ℕ) (parts : TableParts) → object_seen found ≡ TableThere space parts → found ≡ Some (Table space parts)
+pub table_seen_is : (found : Option Placed) (space : ℕ) (parts : TableParts) → object_seen found ≡ TableThere space parts → found ≡ Some (Table space parts)
 table_seen_is None space parts is = cc
 table_seen_is (Some (Table n p)) space parts is = let number : n ≡ space = cc in let same : p ≡ parts = cc in cc
 table_seen_is (Some (View p)) space parts is = cc
@@ -227,8 +229,8 @@ with_key_fit cat table parts indexed words key parent valid absent so_far larger
 one_fits : (cat : Catalog) (table : ObjName) → IsValid cat → finite_map.get cat.objects table ≡ None → (parts : TableParts) (words : FkWords) (next : TableParts) → IsFitSoFar cat table parts → run (all_of cat) (one_foreign_key parts words) ≡ fine next → IsFitSoFar cat table next
 unfolding one_foreign_key
 one_fits cat table valid absent parts words next so_far is =
-    let (_, as_many, after_count) = bind_fine (all_of cat) (refuse_if (not (length words.columns == length words.parent_columns)) (refusals.columns_differ (name_in_text words.constraint))) _ next is in
-    let (_, few, after_few) = bind_fine (all_of cat) (refuse_if (nat_lt 16 (length words.columns)) too_many_columns) _ next after_count in
+    let (_, as_many, after_count) = bind_fine (all_of cat) (refuse_if (not (length words.columns == length words.parent_columns)) (refusals.wrong_fk_def (name_in_text words.constraint))) _ next is in
+    let (_, few, after_few) = bind_fine (all_of cat) (refuse_if (nat_lt 16 (length words.columns)) too_many_key_parts) _ next after_count in
     let (_, some, after_some) = bind_fine (all_of cat) (some_columns words.columns) _ next after_few in
     let (columns, found, after_columns) = bind_fine (all_of cat) (key_columns parts.columns words.columns) _ next after_some in
     let (name, named, after_name) = bind_fine (all_of cat) (constraint_name parts words.constraint) _ next after_columns in
@@ -266,14 +268,15 @@ table_fits cat table elements parts valid absent is =
     subst (IsTableFit cat table) (fine_is last) (record { free = whole.free; fit = sorted_fits cat table linked whole })
 
 pub table_is_new : (cat : Catalog) (table : ObjName) (elements : List Element) (parts : TableParts) → IsValid cat → finite_map.contains_key cat.schemas table.schema ≡ true → finite_map.get cat.objects table ≡ None
-    → run (all_of cat) (table_of table elements) ≡ fine parts → IsNewTable cat table parts
-table_is_new cat table elements parts valid schema absent is =
+    → run (all_of cat) (table_of table elements) ≡ fine parts → has_names parts ≡ true → IsNewTable cat table parts
+table_is_new cat table elements parts valid schema absent is names =
     let formed : is_well_formed parts ≡ true = table_is_formed (all_of cat) table elements parts is in
     let fits : IsTableFit cat table parts = table_fits cat table elements parts valid absent is in
     record {
       schema = schema;
       absent = absent;
       named = table_has_name (all_of cat) table elements parts is;
+      names = names;
       formed = formed;
       free = fits.free;
       fit = fits.fit (well_spelled parts formed);

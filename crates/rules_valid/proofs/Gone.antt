@@ -9,8 +9,8 @@ use Rattle.dd_definitions.specs.declared.foreign_keys.ForeignKeyDef.{ForeignKeyD
 use Rattle.dd_definitions.specs.declared.parts.TableParts.{TableParts}
 use Rattle.dd_catalog.specs.Catalog.{Catalog, Placed, Table, View, object_cmp, is_same_object, refers_to}
 use Rattle.dd_catalog.specs.Valid.{Has, IsValid, is_parent_fit}
+use Rattle.dd_catalog.proofs.ObjectNames.{object_itself, get_without}
 use Rattle.rules_schema.specs.Drops.{is_among}
-use Rattle.rules_valid.proofs.Objects.{object_itself, get_without}
 
 -- ## Parents that stay as they are
 
@@ -56,6 +56,8 @@ was_there cat goes next without q placed has = on (goes q) refl (sym (without.ob
 pub without_valid : (cat : Catalog) (goes : ObjName → Bool) (next : Catalog) → IsValid cat → IsWithout cat goes next → IsValid next
 without_valid cat goes next valid without = record {
   own_schemas = λ name there. valid.own_schemas name (without.schemas name there);
+  schemas_named = λ name there. valid.schemas_named name (without.schemas name there);
+  named = λ name placed has. valid.named name placed (was name placed has).1;
   schemas_there = λ name placed has. let (stays, before) = was name placed has in without.kept name placed before stays;
   names_carried = λ name placed has. valid.names_carried name placed (was name placed has).1;
   formed = λ name placed has. valid.formed name placed (was name placed has).1;

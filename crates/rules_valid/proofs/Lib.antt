@@ -6,5 +6,19 @@ pub mod Drops
 pub mod Created
 pub mod ByClass
 pub mod Fits
+mod Resolved
+mod MadeNamed
 pub mod Tables
 pub mod Spaces
+mod RenamedLists
+mod RenamedNames
+mod RenamedPlaces
+mod RenamedBehind
+pub mod RenamedSound
+mod RenamedMoved
+mod RenamedTables
+mod RenamedSeen
+mod RenamedPair
+mod RenamedNamed
+pub mod RenamedAll
+pub mod Sessions

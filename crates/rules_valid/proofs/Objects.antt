@@ -1,47 +1,15 @@
--- Objects under their names, and lists that have an item.
+-- Objects in lists.
 use Rattle.std.specs.Prelude.{◌≡◌, ◌⊎◌, ℕ, Bool, true, false, cond, ◌&&◌, not, List, [], ◌∷◌, Some, None, refl}
 use Rattle.std.specs.List.{list_any, find}
 use Rattle.std.specs.FinMap as finite_map
-use Rattle.std.specs.Cmp.{IsTotalOrder, tied_then}
-use Rattle.std.specs.Ordering.{eq_by_cmp, is_eq}
 use Rattle.std.specs.Str.{bytes_eq}
 use Rattle.std.proofs.Common.{sym, ◌∙◌, ap, subst, inl, inr}
-use Rattle.std.proofs.lemmas.Bool.{and_parts, and_from, or_cases, or_left, or_right, not_from_false, cond_both}
-use Rattle.std.proofs.lemmas.Cmp.{nat_list_cmp_total, on_total, then_total}
-use Rattle.std.proofs.lemmas.Map.Text.{is_eq-slice_cmp}
-use Rattle.dd_names.specs.Names.{name_cmp}
+use Rattle.std.proofs.lemmas.Bool.{and_from, or_cases, or_left, or_right, not_from_false, cond_both}
 use Rattle.dd_names.specs.declared.object_name.ObjName.{ObjName}
 use Rattle.dd_catalog.specs.Catalog.{Catalog, Placed, object_cmp, is_same_object, refers_to, names_among, children_among}
 use Rattle.dd_catalog.specs.Valid.{Has}
-use Rattle.rules_create.proofs.Names.{bytes_are, bytes_same}
-
--- ## Names of objects
-
-object_total : IsTotalOrder object_cmp
-object_total = then_total (on_total (λ (o : ObjName). o.schema) nat_list_cmp_total) (on_total (λ (o : ObjName). o.name) nat_list_cmp_total)
-
--- two names tie where their bytes are the same
-tied_is_same : (a b : ObjName) → eq_by_cmp object_cmp a b ≡ is_same_object a b
-tied_is_same a b =
-    sym (tied_then (name_cmp a.schema b.schema) (name_cmp a.name b.name))
-    ∙ ap (λ v. v && is_eq (name_cmp a.name b.name)) (is_eq-slice_cmp a.schema b.schema)
-    ∙ ap (λ v. bytes_eq a.schema b.schema && v) (is_eq-slice_cmp a.name b.name)
-
-pub same_object : (a b : ObjName) → is_same_object a b ≡ true → a ≡ b
-same_object a b is =
-    let (schemas, names) = and_parts (bytes_eq a.schema b.schema) (bytes_eq a.name b.name) is in
-    let schema : a.schema ≡ b.schema = bytes_are a.schema b.schema schemas in
-    let name : a.name ≡ b.name = bytes_are a.name b.name names in
-    λ i. record { schema = schema i; name = name i }
-
-pub object_itself : (a : ObjName) → is_same_object a a ≡ true
-object_itself a = and_from (bytes_eq a.schema a.schema) (bytes_eq a.name a.name) (bytes_same a.schema a.schema refl) (bytes_same a.name a.name refl)
-
-pub get_inserted : (m : finite_map.FinMap object_cmp Placed) (k : ObjName) (p : Placed) (q : ObjName) → finite_map.get (finite_map.insert m k p) q ≡ cond (is_same_object q k) (Some p) (finite_map.get m q)
-get_inserted m k p q = finite_map.get-insert object_total m k p q ∙ ap (λ b. cond b (Some p) (finite_map.get m q)) (tied_is_same q k)
-
-pub get_without : (m : finite_map.FinMap object_cmp Placed) (k q : ObjName) → finite_map.get (finite_map.remove m k) q ≡ cond (is_same_object q k) None (finite_map.get m q)
-get_without m k q = finite_map.get-remove object_total m k q ∙ ap (λ b. cond b None (finite_map.get m q)) (tied_is_same q k)
+use Rattle.dd_catalog.proofs.ObjectNames.{tied_is_same, same_object, object_itself}
+use Rattle.rules_create.proofs.Names.{bytes_same}
 
 -- ## Lists that have an item
 

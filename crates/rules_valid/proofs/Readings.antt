@@ -7,14 +7,14 @@ use Rattle.std.proofs.lemmas.Bool.{true≢false}
 use Rattle.dd_names.specs.Names.{name_cmp}
 use Rattle.dd_names.specs.declared.object_name.ObjName.{ObjName}
 use Rattle.dd_errors.specs.Errors.{ErrorValue}
-use Rattle.ddl_words.specs.declared.session.SessionState.{SessionState}
+use Rattle.sql_ast.specs.declared.session.SessionState.{SessionState}
 use Rattle.dd_catalog.specs.Catalog.{Catalog, Placed, Table, object_cmp, empty_catalog, all_of}
 use Rattle.dd_catalog.specs.Valid.{Has, IsValid}
 use Rattle.dd_catalog.specs.Walks.{fine, run}
 use Rattle.dd_catalog.specs.WalkLaws.{Look}
 use Rattle.dd_catalog.specs.Asked.{fine_is, bind_fine}
-use Rattle.rules_fk.specs.Keys.{first_given}
-use Rattle.ddl_decided.specs.Choices.{Choice, catalog_behind}
+use Rattle.rules_elements.specs.Keys.{first_given}
+use Rattle.rules_outcome.specs.Choices.{Choice, catalog_behind}
 use Rattle.rules_named.specs.Named.{schema_there, unless}
 use Rattle.rules_schema.specs.Listings.{chosen_schema, show_databases, show_tables}
 use Rattle.rules_schema.specs.Sessions.{use_schema, set_tries}
@@ -31,6 +31,8 @@ no_object name placed has = true≢false (ap is_some (sym has.is) ∙ ap is_some
 pub empty_valid : IsValid empty_catalog
 empty_valid = record {
   own_schemas = λ name there. absurd (no_schema name there);
+  schemas_named = λ name there. absurd (no_schema name there);
+  named = λ name placed has. absurd (no_object name placed has);
   schemas_there = λ name placed has. absurd (no_object name placed has);
   names_carried = λ name placed has. absurd (no_object name placed has);
   formed = λ name placed has. absurd (no_object name placed has);

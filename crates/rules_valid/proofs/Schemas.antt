@@ -8,18 +8,18 @@ use Rattle.std.proofs.Common.{sym, ◌∙◌, ap, subst, inl, inr}
 use Rattle.std.proofs.lemmas.Bool.{or_cases, or_right}
 use Rattle.std.proofs.lemmas.Cmp.{nat_list_cmp_total}
 use Rattle.std.proofs.lemmas.Map.Text.{is_eq-slice_cmp}
-use Rattle.dd_names.specs.Names.{name_cmp}
+use Rattle.dd_names.specs.Names.{is_name, name_cmp}
 use Rattle.dd_names.specs.Reserved.{is_system_schema}
 use Rattle.dd_names.specs.declared.object_name.ObjectKey.TheVariants as keys
 use Rattle.dd_errors.specs.Errors.{ErrorValue}
-use Rattle.ddl_words.specs.declared.session.SessionState.{SessionState}
+use Rattle.sql_ast.specs.declared.session.SessionState.{SessionState}
 use Rattle.dd_catalog.specs.Catalog.{Catalog, NameSet, all_of}
 use Rattle.dd_catalog.specs.Valid.{IsValid}
 use Rattle.dd_catalog.specs.Walks.{done, ◌>>=◌, fine, run, look_at}
 use Rattle.dd_catalog.specs.WalkLaws.{Look}
 use Rattle.dd_catalog.specs.Asked.{fine_is, bind_fine}
-use Rattle.ddl_decided.specs.Choices.{Schema, change, Choice, Changes, catalog_behind}
-use Rattle.rules_named.specs.Refusals.{schema_present}
+use Rattle.rules_outcome.specs.Choices.{NewSchema, change, Choice, Changes, catalog_behind}
+use Rattle.rules_refusals.specs.Refusals.{db_create_exists}
 use Rattle.rules_named.specs.Named.{is_nothing, unless}
 use Rattle.rules_schema.specs.Schemas.{is_schema_present, create_database}
 use Rattle.rules_create.proofs.Names.{bytes_are}
@@ -53,12 +53,17 @@ contains_without schemas name q =
 abbrev with_schema : Catalog → List ℕ → Catalog
 with_schema cat name = record cat { schemas = finite_map.insert cat.schemas name tt }
 
-with_schema_valid : (cat : Catalog) (name : List ℕ) → IsValid cat → is_system_schema name ≡ false → IsValid (with_schema cat name)
-with_schema_valid cat name valid own = record {
+with_schema_valid : (cat : Catalog) (name : List ℕ) → IsValid cat → is_system_schema name ≡ false → is_name name ≡ true → IsValid (with_schema cat name)
+with_schema_valid cat name valid own named = record {
   own_schemas = λ q there. elim (or_cases (bytes_eq q name) (finite_map.contains_key cat.schemas q) (sym (contains_inserted cat.schemas name q) ∙ there)) [
     | inl new ↦ ap is_system_schema (bytes_are q name new) ∙ own
     | inr before ↦ valid.own_schemas q before
   ];
+  schemas_named = λ q there. elim (or_cases (bytes_eq q name) (finite_map.contains_key cat.schemas q) (sym (contains_inserted cat.schemas name q) ∙ there)) [
+    | inl new ↦ ap is_name (bytes_are q name new) ∙ named
+    | inr before ↦ valid.schemas_named q before
+  ];
+  named = λ q placed has. valid.named q placed (record { is = has.is });
   schemas_there = λ q placed has. contains_inserted cat.schemas name q.schema ∙ or_right (bytes_eq q.schema name) (finite_map.contains_key cat.schemas q.schema) (valid.schemas_there q placed (record { is = has.is }));
   names_carried = λ q placed has. valid.names_carried q placed (record { is = has.is });
   formed = λ q placed has. valid.formed q placed (record { is = has.is });
@@ -77,15 +82,15 @@ own_name_is look name is = on (is_system_schema name) refl is
     on true own is = let wrong : true ≡ false = fine_is is in cc
     on false own is = own
 
-pub create_keeps : (session : SessionState) (if_not_exists : Bool) (name : List ℕ) → KeepsValid (create_database session if_not_exists name)
+pub create_keeps : (session : SessionState) (if_not_exists : Bool) (name : List ℕ) → is_name name ≡ true → KeepsValid (create_database session if_not_exists name)
 unfolding create_database
-create_keeps session if_not_exists name = record {
+create_keeps session if_not_exists name named = record {
   keeps = λ cat space choice valid new is.
       let (present, looked, rest) = bind_fine (all_of cat) (is_schema_present name) _ choice is in
       on cat space choice valid present looked rest;
 }
   where
     on : (cat : Catalog) (space : ℕ) (choice : Choice) → IsValid cat → (present : Bool) → run (all_of cat) (is_schema_present name) ≡ fine present
-        → run (all_of cat) (if present then unless if_not_exists (schema_present name) else done (Changes (change (keys.Schema name) Schema ∷ []) session)) ≡ fine choice → IsValid (catalog_behind space choice cat)
-    on cat space choice valid true looked is = unless_valid (all_of cat) if_not_exists (schema_present name) cat space choice valid is
-    on cat space choice valid false looked is = subst (λ c. IsValid (catalog_behind space c cat)) (fine_is is) (with_schema_valid cat name valid (own_name_is (all_of cat) name looked))
+        → run (all_of cat) (if present then unless if_not_exists (db_create_exists name) else done (Changes (change (keys.Schema name) NewSchema ∷ []) session)) ≡ fine choice → IsValid (catalog_behind space choice cat)
+    on cat space choice valid true looked is = unless_valid (all_of cat) if_not_exists (db_create_exists name) cat space choice valid is
+    on cat space choice valid false looked is = subst (λ c. IsValid (catalog_behind space c cat)) (fine_is is) (with_schema_valid cat name valid (own_name_is (all_of cat) name looked) named)

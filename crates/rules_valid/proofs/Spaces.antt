@@ -1,35 +1,35 @@
 -- Statements but RENAME TABLE keep no tablespace under a changed name, so that each table that they make has a new one.
-use Rattle.std.specs.Prelude.{◌≡◌, ◌⊎◌, ℕ, Bool, true, false, cond, ◌||◌, nat_lt, List, [], ◌∷◌, ◌++◌, map, filter, length, Option, Some, None, if◌then◌else◌, refl}
+use Rattle.std.specs.Prelude.{◌≡◌, ◌⊎◌, ℕ, Bool, true, false, cond, ◌||◌, nat_lt, List, [], ◌∷◌, map, filter, length, Option, Some, None, if◌then◌else◌, refl}
 use Rattle.std.specs.FinMap as finite_map
 use Rattle.std.specs.List.{AllByRecursion, list_any}
-use Rattle.std.proofs.Common.{sym, ◌∙◌, ap, subst, inl, inr}
+use Rattle.std.proofs.Common.{sym, ◌∙◌, subst, inl, inr}
 use Rattle.dd_names.specs.declared.object_name.ObjName.{ObjName}
 use Rattle.dd_names.specs.declared.object_name.ObjectKey.{ObjectKey}
 use Rattle.dd_names.specs.declared.object_name.ObjectKey.TheVariants as keys
 use Rattle.dd_errors.specs.Errors.{ErrorValue}
-use Rattle.dd_objects.specs.declared.words.ObjRef.{ObjRef}
+use Rattle.sql_types.specs.declared.words.ObjRef.{ObjRef}
 use Rattle.dd_definitions.specs.declared.parts.TableParts.{TableParts}
-use Rattle.ddl_words.specs.declared.session.SessionState.{SessionState}
-use Rattle.ddl_words.specs.declared.element.Element.{Element}
-use Rattle.dd_catalog.specs.Catalog.{Catalog, Placed, Table, View, is_same_object, sight_of}
+use Rattle.dd_definitions.specs.declared.view_parts.ViewParts.{ViewParts}
+use Rattle.sql_ast.specs.declared.session.SessionState.{SessionState}
+use Rattle.sql_ast.specs.declared.element.Element.{Element}
+use Rattle.dd_catalog.specs.Catalog.{Catalog, Table, View, is_same_object, sight_of}
 use Rattle.dd_catalog.specs.Sights.{Sight}
 use Rattle.dd_catalog.specs.Valid.{Has}
-use Rattle.dd_catalog.specs.Walks.{Walk, done, refuse, ask, ◌>>=◌, Found, fine, told, run, look_at, refuse_if, refuse_some, every, picked}
+use Rattle.dd_catalog.specs.Walks.{Walk, done, refuse, ask, ◌>>=◌, fine, told, run, refuse_if, refuse_some, every, picked}
 use Rattle.dd_catalog.specs.WalkLaws.{Look}
 use Rattle.dd_catalog.specs.Asked.{fine_is}
-use Rattle.rules_fk.specs.Keys.{first_given}
-use Rattle.ddl_decided.specs.Choices.{After, Gone, Schema, FreshTable, KeptTable, Change, change, Choice, Same, Changes, Lists, applied, applied_at, catalog_behind, makes_space, takes_space}
-use Rattle.ddl_decided.specs.Choices as after
-use Rattle.rules_named.specs.Named.{is_nothing, object_in, schema_there, one_named, all_named, unless}
-use Rattle.rules_named.specs.Refusals.{schema_present, schema_absent, beyond_limit}
-use Rattle.rules_named.specs.Refusals as refusals
+use Rattle.dd_catalog.proofs.ObjectNames.{get_inserted, get_without}
+use Rattle.rules_elements.specs.Keys.{first_given}
+use Rattle.rules_outcome.specs.Choices.{After, Gone, NewSchema, FreshTable, KeptTable, NewView, KeptView, Change, change, Choice, Same, Changes, Lists, applied, applied_at, catalog_behind, makes_space, takes_space}
+use Rattle.rules_named.specs.Named.{is_nothing, schema_there, one_named, all_named, unless}
+use Rattle.rules_refusals.specs.Refusals.{db_create_exists, db_drop_exists, beyond_limit}
+use Rattle.rules_refusals.specs.Refusals as refusals
 use Rattle.rules_schema.specs.Drops.{is_among, first_twice, twice_refused, is_there, gone, is_left_out, unknown_refused, no_child_stays, tables_gone, drop_table}
 use Rattle.rules_schema.specs.Listings.{names_seen, chosen_schema, show_databases, show_tables}
 use Rattle.rules_schema.specs.Schemas.{is_schema_present, may_go, all_gone, schema_gone, create_database, drop_database}
 use Rattle.rules_schema.specs.Sessions.{use_schema, set_tries}
 use Rattle.rules_create.specs.Tables.{table_of, table_made, create_table}
 use Rattle.rules_valid.specs.Keeps.{HasSpace, MakesOneSpace}
-use Rattle.rules_valid.proofs.Objects.{get_inserted, get_without}
 
 -- ## What a check ends with
 
@@ -56,10 +56,11 @@ ends_so {E = E} {A = A} P look (ask key go) x ends is =
 
 abbrev pub keeps_none : After → Bool
 keeps_none Gone = true
-keeps_none Schema = true
+keeps_none NewSchema = true
 keeps_none (FreshTable parts) = true
 keeps_none (KeptTable space parts) = false
-keeps_none (after.View parts) = true
+keeps_none (NewView parts) = true
+keeps_none (KeptView parts) = true
 
 abbrev pub KeepsNone : Choice → Type 0
 KeepsNone Same = Unit {0}
@@ -74,6 +75,14 @@ IsHeld cat space held makes = HasSpace cat held ⊎ ((makes ≡ true) × (held �
 abbrev held_before : (cat : Catalog) (name : ObjName) (held : ℕ) (parts : TableParts) → finite_map.get cat.objects name ≡ Some (Table held parts) → HasSpace cat held
 held_before cat name held parts is = record { name = name; parts = parts; has = record { is = is } }
 
+at_view : (cat : Catalog) (space : ℕ) (object : ObjName) (made : ViewParts) (name : ObjName) (held : ℕ) (parts : TableParts)
+    → finite_map.get (finite_map.insert cat.objects object (View made)) name ≡ Some (Table held parts) → IsHeld cat space held false
+at_view cat space object made name held parts is = on (is_same_object name object) (sym (get_inserted cat.objects object (View made) name) ∙ is)
+  where
+    on : (b : Bool) → cond b (Some (View made)) (finite_map.get cat.objects name) ≡ Some (Table held parts) → IsHeld cat space held false
+    on true is = cc
+    on false is = inl (held_before cat name held parts is)
+
 at_object : (cat : Catalog) (space : ℕ) (object : ObjName) (after : After) → keeps_none after ≡ true → (name : ObjName) (held : ℕ) (parts : TableParts)
     → finite_map.get (applied_at space (keys.Object object) after cat).objects name ≡ Some (Table held parts) → IsHeld cat space held (makes_space after)
 at_object cat space object Gone none name held parts is = on (is_same_object name object) (sym (get_without cat.objects object name) ∙ is)
@@ -81,27 +90,25 @@ at_object cat space object Gone none name held parts is = on (is_same_object nam
     on : (b : Bool) → cond b None (finite_map.get cat.objects name) ≡ Some (Table held parts) → IsHeld cat space held false
     on true is = cc
     on false is = inl (held_before cat name held parts is)
-at_object cat space object Schema none name held parts is = inl (held_before cat name held parts is)
+at_object cat space object NewSchema none name held parts is = inl (held_before cat name held parts is)
 at_object cat space object (FreshTable made) none name held parts is = on (is_same_object name object) (sym (get_inserted cat.objects object (Table space made) name) ∙ is)
   where
     on : (b : Bool) → cond b (Some (Table space made)) (finite_map.get cat.objects name) ≡ Some (Table held parts) → IsHeld cat space held true
     on true is = let same : held ≡ space = cc in inr (refl, same)
     on false is = inl (held_before cat name held parts is)
 at_object cat space object (KeptTable kept made) none name held parts is = cc
-at_object cat space object (after.View made) none name held parts is = on (is_same_object name object) (sym (get_inserted cat.objects object (View made) name) ∙ is)
-  where
-    on : (b : Bool) → cond b (Some (View made)) (finite_map.get cat.objects name) ≡ Some (Table held parts) → IsHeld cat space held false
-    on true is = cc
-    on false is = inl (held_before cat name held parts is)
+at_object cat space object (NewView made) none name held parts is = at_view cat space object made name held parts is
+at_object cat space object (KeptView made) none name held parts is = at_view cat space object made name held parts is
 
 at_key : (cat : Catalog) (space : ℕ) (key : ObjectKey) (after : After) → keeps_none after ≡ true → (name : ObjName) (held : ℕ) (parts : TableParts)
     → finite_map.get (applied_at space key after cat).objects name ≡ Some (Table held parts) → IsHeld cat space held (makes_space after)
 at_key cat space keys.Schemas after none name held parts is = inl (held_before cat name held parts is)
 at_key cat space (keys.Schema schema) Gone none name held parts is = inl (held_before cat name held parts is)
-at_key cat space (keys.Schema schema) Schema none name held parts is = inl (held_before cat name held parts is)
+at_key cat space (keys.Schema schema) NewSchema none name held parts is = inl (held_before cat name held parts is)
 at_key cat space (keys.Schema schema) (FreshTable made) none name held parts is = inl (held_before cat name held parts is)
 at_key cat space (keys.Schema schema) (KeptTable kept made) none name held parts is = inl (held_before cat name held parts is)
-at_key cat space (keys.Schema schema) (after.View made) none name held parts is = inl (held_before cat name held parts is)
+at_key cat space (keys.Schema schema) (NewView made) none name held parts is = inl (held_before cat name held parts is)
+at_key cat space (keys.Schema schema) (KeptView made) none name held parts is = inl (held_before cat name held parts is)
 at_key cat space (keys.Objects schema) after none name held parts is = inl (held_before cat name held parts is)
 at_key cat space (keys.Object object) after none name held parts is = at_object cat space object after none name held parts is
 at_key cat space (keys.Children parent) after none name held parts is = inl (held_before cat name held parts is)
@@ -146,8 +153,8 @@ create_database_ends : (session : SessionState) (if_not_exists : Bool) (name : L
 unfolding create_database
 create_database_ends session if_not_exists name = ends_after KeepsNone (is_schema_present name) _ on
   where
-    on : (present : Bool) → Ends KeepsNone (if present then unless if_not_exists (schema_present name) else done (Changes (change (keys.Schema name) Schema ∷ []) session))
-    on true = unless_ends if_not_exists (schema_present name)
+    on : (present : Bool) → Ends KeepsNone (if present then unless if_not_exists (db_create_exists name) else done (Changes (change (keys.Schema name) NewSchema ∷ []) session))
+    on true = unless_ends if_not_exists (db_create_exists name)
     on false = (refl, tt)
 
 all_gone_keep : (schema : List ℕ) (names : List (List ℕ)) → AllByRecursion (λ (c : Change). keeps_none c.after ≡ true) (all_gone schema names)
@@ -163,8 +170,8 @@ drop_database_ends : (session : SessionState) (if_exists : Bool) (name : List �
 unfolding drop_database
 drop_database_ends session if_exists name = λ seen. on (is_nothing seen)
   where
-    on : (absent : Bool) → Ends KeepsNone (if absent then unless if_exists (schema_absent name) else schema_gone session name)
-    on true = unless_ends if_exists (schema_absent name)
+    on : (absent : Bool) → Ends KeepsNone (if absent then unless if_exists (db_drop_exists name) else schema_gone session name)
+    on true = unless_ends if_exists (db_drop_exists name)
     on false = schema_gone_ends session name
 
 use_ends : (session : SessionState) (name : List ℕ) → Ends KeepsNone (use_schema session name)
@@ -205,9 +212,9 @@ create_table_ends : (session : SessionState) (if_not_exists : Bool) (ref : ObjRe
 unfolding create_table
 create_table_ends session if_not_exists ref elements = ends_after KeepsNone (one_named session.current ref) _ (λ table seen. on table (is_nothing seen))
   where
-    on : (table : ObjName) (free : Bool) → Ends KeepsNone (if free then (table_of table elements >>= λ parts. done (table_made session table parts)) else unless if_not_exists (refusals.table_present table.name))
+    on : (table : ObjName) (free : Bool) → Ends KeepsNone (if free then (table_of table elements >>= λ parts. done (table_made session table parts)) else unless if_not_exists (refusals.table_exists table.name))
     on table true = ends_after KeepsNone (table_of table elements) _ (λ parts. (refl, tt))
-    on table false = unless_ends if_not_exists (refusals.table_present table.name)
+    on table false = unless_ends if_not_exists (refusals.table_exists table.name)
 
 pub create_database_makes : (session : SessionState) (if_not_exists : Bool) (name : List ℕ) → MakesOneSpace (create_database session if_not_exists name)
 create_database_makes session if_not_exists name = makes_one _ (create_database_ends session if_not_exists name)

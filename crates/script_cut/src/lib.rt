@@ -7,8 +7,6 @@ mod item;
 mod judge;
 mod moves;
 mod name;
-#[cfg(test)]
-mod tests;
 
 pub use cut::items;
 pub use fault::ScriptFault;

@@ -1,32 +1,19 @@
 // The names of sessions.
 ghost use Rattle.std.specs.Prelude.{◌≡◌, false, is_none, not, position};
 ghost use Rattle.dd_names.specs.Names.{is_name_byte, name_fault};
-ghost use Rattle.std.specs.Char.{is_ascii_digit};
-ghost use Rattle.std.specs.List.{list_all};
 ghost use Rattle.script_cut.specs.Names.{is_plain_name, is_session};
 
 use dd_names::is_reserved;
+use sql_lex::{are_digits, is_name_byte};
 use std::str;
 
 /// The greatest number of characters of a name.
 const MAX_CHARACTERS: usize = 64;
 
-fn is_name_byte(c: u8) -> bool
-    ensures { result ≡ is_name_byte c }
-{
-    c.is_ascii_alphanumeric() || c == b'_'
-}
-
 fn first_bad_byte(word: &[u8]) -> Option<usize>
     ensures { result ≡ position (λ c. not (is_name_byte c)) word.now }
 {
     word.iter().position(|c| !is_name_byte(*c))
-}
-
-fn are_digits(word: &[u8]) -> bool
-    ensures { result ≡ list_all is_ascii_digit word.now }
-{
-    word.iter().all(|c| c.is_ascii_digit())
 }
 
 /// Whether a word is a name, but for the words that are reserved.

@@ -1,9 +1,11 @@
 -- The sessions of an input, or its first fault.
-use Rattle.std.specs.Prelude.{ℕ, ◌≤◌, Bool, nat_lt, not, List, [], ◌∷◌, length, slice_range, Option, Some, None, Result, Ok, Err, if◌then◌else◌}
+use Rattle.std.specs.Prelude.{◌≡◌, ℕ, ◌≤◌, Bool, true, nat_lt, not, List, [], ◌∷◌, length, slice_range, Option, Some, None, Result, Ok, Err, if◌then◌else◌}
+use Rattle.std.specs.List.{AllByRecursion}
 use Rattle.std.specs.Str.{is_utf8}
 use Rattle.std.specs.Str.Lossy.{utf8_valid_len}
-use Rattle.ddl_words.specs.declared.statement.Statement as words
-use Rattle.ddl_words.specs.Reads.{plainly_read}
+use Rattle.sql_ast.specs.declared.statement.Statement as words
+use Rattle.sql_ast.specs.Names.{says_names}
+use Rattle.sql_ast.specs.Reads.{plainly_read}
 use Rattle.script_cut.specs.declared.item.Item.{Item}
 use Rattle.script_cut.specs.declared.item.Item.TheVariants.{SessionLine, Statement}
 use Rattle.script_cut.specs.declared.fault.ScriptFault.{ScriptFault}
@@ -47,3 +49,7 @@ scripts bytes =
 -- a session has 100,000 statements at most
 abbrev pub IsFew : Script → Type 0
 IsFew script = length script.statements ≤ 100000
+
+-- each statement of a session says names
+abbrev pub SaysNames : Script → Type 0
+SaysNames script = AllByRecursion (λ (s : words.Statement). says_names s ≡ true) script.statements

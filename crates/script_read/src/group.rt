@@ -1,15 +1,15 @@
 // The items of an input as sessions.
 ghost use Rattle.std.specs.Prelude.{◌≡◌, ◌∷◌, All, IfOk, MatchOption, slice_range, true};
-ghost use Rattle.ddl_words.specs.Reads.{plainly_read};
+ghost use Rattle.sql_ast.specs.Reads.{plainly_read};
 ghost use Rattle.script_cut.specs.Names.{is_plain_name};
 ghost use Rattle.script_cut.specs.Items.{IsItemOf, IsLine, IsStatement};
 ghost use Rattle.script_read.specs.Scripts.{statements_in, script_of, sessions_in};
 
 use crate::script::Script;
 use dd_names::{List, Name, NameFault};
-use ddl_parser::statement_of;
-use ddl_words::Statement;
 use script_cut::Item;
+use sql_ast::Statement;
+use sql_parse::statement_of;
 use std::alloc::{AllocError, Global};
 use std::str;
 

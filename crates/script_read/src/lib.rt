@@ -4,8 +4,6 @@
 mod group;
 mod read;
 mod script;
-#[cfg(test)]
-mod tests;
 
 pub use read::{MAX_INPUT, scripts};
 pub use script::Script;

@@ -1,12 +1,13 @@
 // The sessions of an input.
 ghost use Rattle.std.specs.Prelude.{◌≡◌, ◌⊎◌, Err, IfOk};
 ghost use Rattle.std.specs.List.{AllByRecursion};
-ghost use Rattle.script_read.specs.Scripts.{scripts, scripts_in, IsFew};
+ghost use Rattle.script_read.specs.Scripts.{scripts, scripts_in, IsFew, SaysNames};
 
 use crate::group::sessions_in;
 use crate::script::Script;
 use dd_names::List;
 use script_cut::{ScriptFault, fault_of, items};
+use sql_ast_laws::{statement_laws, what_is_read_says_names};
 use std::alloc::Global;
 use std::str;
 
@@ -17,7 +18,10 @@ pub const MAX_INPUT: usize = 67_108_864;
 fn scripts_in(alloc: Global, text: &str) -> Result<List<Script>, ScriptFault>
     ensures exact { (result ≡ Err ScriptFault.Memory) ⊎ (result ≡ scripts_in text.now) }
     ensures few { IfOk result (λ sessions. AllByRecursion IsFew sessions) }
+    ensures named { IfOk result (λ sessions. AllByRecursion SaysNames sessions) }
 {
+    statement_laws();
+    what_is_read_says_names();
     let Ok(items) = items(alloc, text) else {
         return Err(ScriptFault::Memory);
     };
@@ -37,6 +41,7 @@ fn scripts_in(alloc: Global, text: &str) -> Result<List<Script>, ScriptFault>
 pub fn scripts(alloc: Global, bytes: &[u8]) -> Result<List<Script>, ScriptFault>
     ensures exact { (result ≡ Err ScriptFault.Memory) ⊎ (result ≡ scripts bytes.now) }
     ensures few { IfOk result (λ sessions. AllByRecursion IsFew sessions) }
+    ensures named { IfOk result (λ sessions. AllByRecursion SaysNames sessions) }
 {
     if bytes.len() > MAX_INPUT {
         return Err(ScriptFault::Limit { at: MAX_INPUT });

@@ -1,8 +1,8 @@
 use dd_names::{List, Name};
-use ddl_words::Statement;
+use sql_ast::Statement;
 
 /// A session of the input: its name and its statements in order.
-#[derive(Debug, Drop)]
+#[derive(Drop)]
 pub struct Script {
     pub name: Name,
     pub statements: List<Statement>,

@@ -1,12 +1,12 @@
 -- A column in the text of SHOW CREATE TABLE.
 use Rattle.std.specs.Prelude.{ℕ, Bool, true, false, List, [], ◌∷◌, ◌++◌, Option, Some, None, codes}
 use Rattle.std.specs.Fmt.{decimal}
-use Rattle.dd_objects.specs.declared.choices.IntSize.{IntSize}
-use Rattle.dd_objects.specs.declared.choices.IntSize.TheVariants as sizes
-use Rattle.dd_objects.specs.declared.choices.ColumnType.{ColumnType}
-use Rattle.dd_objects.specs.declared.choices.ColumnType.TheVariants as types
+use Rattle.sql_types.specs.declared.choices.IntSize.{IntSize}
+use Rattle.sql_types.specs.declared.choices.IntSize.TheVariants as sizes
+use Rattle.sql_types.specs.declared.choices.ColumnType.{ColumnType}
+use Rattle.sql_types.specs.declared.choices.ColumnType.TheVariants as types
 use Rattle.dd_definitions.specs.declared.columns.ColumnDef.{ColumnDef}
-use Rattle.text_pieces.specs.Pieces.{quoted_name, quoted_string}
+use Rattle.sql_pieces.specs.Pieces.{quoted_name, quoted_string}
 
 abbrev pub size_text : IntSize → List ℕ
 size_text sizes.Tiny = codes "tinyint"

@@ -2,13 +2,13 @@
 use Rattle.std.specs.Prelude.{ℕ, Bool, true, false, List, [], ◌∷◌, ◌++◌, codes, flat_map}
 use Rattle.std.specs.Str.{bytes_eq}
 use Rattle.dd_names.specs.declared.object_name.ObjName.{ObjName}
-use Rattle.dd_objects.specs.declared.choices.IndexClass.{IndexClass}
-use Rattle.dd_objects.specs.declared.choices.IndexClass.TheVariants as classes
-use Rattle.dd_objects.specs.declared.choices.FkRule.{FkRule}
-use Rattle.dd_objects.specs.declared.choices.FkRule.TheVariants as rules
+use Rattle.sql_types.specs.declared.choices.IndexClass.{IndexClass}
+use Rattle.sql_types.specs.declared.choices.IndexClass.TheVariants as classes
+use Rattle.sql_types.specs.declared.choices.FkRule.{FkRule}
+use Rattle.sql_types.specs.declared.choices.FkRule.TheVariants as rules
 use Rattle.dd_definitions.specs.declared.indexes.IndexDef.{IndexDef}
 use Rattle.dd_definitions.specs.declared.foreign_keys.ForeignKeyDef.{ForeignKeyDef}
-use Rattle.text_pieces.specs.Pieces.{quoted_name}
+use Rattle.sql_pieces.specs.Pieces.{quoted_name}
 
 abbrev pub behind_comma : List ℕ → List ℕ
 behind_comma name = codes "," ++ quoted_name name

@@ -4,7 +4,7 @@ use Rattle.dd_definitions.specs.declared.columns.ColumnDef.{ColumnDef}
 use Rattle.dd_definitions.specs.declared.indexes.IndexDef.{IndexDef}
 use Rattle.dd_definitions.specs.declared.foreign_keys.ForeignKeyDef.{ForeignKeyDef}
 use Rattle.dd_definitions.specs.declared.parts.TableParts.{TableParts}
-use Rattle.text_pieces.specs.Pieces.{quoted_name}
+use Rattle.sql_pieces.specs.Pieces.{quoted_name}
 use Rattle.show_text.specs.Columns.{column_text}
 use Rattle.show_text.specs.Keys.{index_text, foreign_key_text}
 
@@ -29,8 +29,12 @@ column_lines (column ∷ columns) = codes "  " ++ column_text column ++ flat_map
 abbrev pub lines_text : TableParts → List ℕ
 lines_text parts = column_lines parts.columns ++ flat_map index_line parts.indexes ++ flat_map (foreign_key_line parts.name.schema) parts.foreign_keys
 
+-- the name, the lines and the options
+abbrev pub named_table_text : TableParts → List ℕ
+named_table_text parts = quoted_name parts.name.name ++ 32 ∷ 40 ∷ 10 ∷ lines_text parts ++ 10 ∷ codes ") ENGINE=InnoDB DEFAULT CHARSET=utf8mb4 COLLATE=utf8mb4_0900_ai_ci"
+
 abbrev pub table_text : TableParts → List ℕ
-table_text parts = codes "CREATE TABLE " ++ quoted_name parts.name.name ++ 32 ∷ 40 ∷ 10 ∷ lines_text parts ++ 10 ∷ codes ") ENGINE=InnoDB DEFAULT CHARSET=utf8mb4 COLLATE=utf8mb4_0900_ai_ci"
+table_text parts = codes "CREATE TABLE " ++ named_table_text parts
 
 -- the text of SHOW CREATE DATABASE
 abbrev pub database_text : List ℕ → List ℕ

@@ -4,7 +4,7 @@ use Rattle.std.specs.Str.{bytes_eq}
 use Rattle.dd_definitions.specs.declared.view_parts.ViewColumn.{ViewColumn}
 use Rattle.dd_definitions.specs.declared.view_parts.ViewSource.{ViewSource}
 use Rattle.dd_definitions.specs.declared.view_parts.ViewParts.{ViewParts}
-use Rattle.text_pieces.specs.Pieces.{quoted_name}
+use Rattle.sql_pieces.specs.Pieces.{quoted_name}
 
 abbrev pub alias_of : Option ViewSource → List ℕ
 alias_of None = []

@@ -3,9 +3,9 @@ ghost use Rattle.show_text.specs.Columns.{size_text, sign_text, with_length, typ
 
 use dd_definitions::ColumnDef;
 use dd_names::Text;
-use dd_objects::{ColumnType, IntSize};
+use sql_pieces::{push_name, push_number, push_string};
+use sql_types::{ColumnType, IntSize};
 use std::alloc::{AllocError, Global};
-use text_pieces::{push_name, push_number, push_string};
 
 /// A column: its name, its type and its attributes.
 pub fn push_column(alloc: Global, out: &mut Text, column: &ColumnDef) -> Result<(), AllocError>

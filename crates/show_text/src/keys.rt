@@ -3,9 +3,9 @@ ghost use Rattle.show_text.specs.Keys.{behind_comma, names_inside, names_text, c
 
 use dd_definitions::{ForeignKeyDef, IndexDef};
 use dd_names::{Name, ObjName, Text};
-use dd_objects::{FkRule, IndexClass};
+use sql_pieces::push_name;
+use sql_types::{FkRule, IndexClass};
 use std::alloc::AllocError;
-use text_pieces::push_name;
 
 /// An index.
 pub fn push_index(out: &mut Text, index: &IndexDef) -> Result<(), AllocError>

@@ -1,13 +1,13 @@
 // The text of SHOW CREATE TABLE (MySQL 8.0 Reference Manual, 13.7.7.10).
 ghost use Rattle.std.specs.Prelude.{◌≡◌, ◌++◌, OnOk, IfOk, flat_map};
-ghost use Rattle.show_text.specs.Tables.{column_line, index_line, foreign_key_line, column_lines, lines_text, table_text, database_text};
+ghost use Rattle.show_text.specs.Tables.{column_line, index_line, foreign_key_line, column_lines, lines_text, named_table_text, table_text, database_text};
 
 use crate::columns::push_column;
 use crate::keys::{push_foreign_key, push_index};
 use dd_definitions::{ColumnDef, ForeignKeyDef, IndexDef, TableDef, TableParts};
 use dd_names::{Name, Text};
+use sql_pieces::push_name;
 use std::alloc::{AllocError, Global};
-use text_pieces::push_name;
 
 /// The text of SHOW CREATE TABLE.
 pub fn show_table(alloc: Global, table: &TableDef) -> Result<Text, AllocError>
@@ -15,11 +15,18 @@ pub fn show_table(alloc: Global, table: &TableDef) -> Result<Text, AllocError>
 {
     let parts = table.parts();
     let mut out = Text::of(alloc, "CREATE TABLE ")?;
-    push_name(&mut out, &parts.name.name)?;
-    out.push_str(" (\n")?;
-    push_lines(alloc, &mut out, parts)?;
-    out.push_str("\n) ENGINE=InnoDB DEFAULT CHARSET=utf8mb4 COLLATE=utf8mb4_0900_ai_ci")?;
+    push_table(alloc, &mut out, parts)?;
     Ok(out)
+}
+
+/// The name, the lines, and the options.
+fn push_table(alloc: Global, out: &mut Text, parts: &TableParts) -> Result<(), AllocError>
+    ensures { OnOk result (out.new ≡ out.old ++ named_table_text parts.now) }
+{
+    push_name(out, &parts.name.name)?;
+    out.push_str(" (\n")?;
+    push_lines(alloc, out, parts)?;
+    out.push_str("\n) ENGINE=InnoDB DEFAULT CHARSET=utf8mb4 COLLATE=utf8mb4_0900_ai_ci")
 }
 
 fn push_lines(alloc: Global, out: &mut Text, parts: &TableParts) -> Result<(), AllocError>

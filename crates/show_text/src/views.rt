@@ -1,12 +1,12 @@
 // The text of SHOW CREATE VIEW (MySQL 8.0 Reference Manual, 13.7.7.13).
 ghost use Rattle.std.specs.Prelude.{◌≡◌, ◌++◌, OnOk, IfOk, flat_map, slice_get};
-ghost use Rattle.text_pieces.specs.Pieces.{quoted_name};
+ghost use Rattle.sql_pieces.specs.Pieces.{quoted_name};
 ghost use Rattle.show_text.specs.Views.{alias_of, output_text, alias_text, source_text, behind_comma, outputs_text, sources_text, query_text, view_text};
 
 use dd_definitions::{ViewColumn, ViewDef, ViewParts, ViewSource};
 use dd_names::Text;
+use sql_pieces::push_name;
 use std::alloc::{AllocError, Global};
-use text_pieces::push_name;
 
 /// The text of SHOW CREATE VIEW.
 pub fn show_view(alloc: Global, view: &ViewDef) -> Result<Text, AllocError>

@@ -1,8 +1,8 @@
 -- What a text is to a grammar, and how it reads: as a value, or as bad, with its place.
 use Rattle.std.specs.Prelude.{◌≡◌, ℕ, zero, suc, ◌+◌, ◌-◌, List, [], ◌∷◌, ◌++◌, length, map, slice_range, slice_index, Option, Some, None}
-use Rattle.grammar_data.specs.Lexemes.{Lexeme, word, number, quoted, string, sign, broken, content}
-use Rattle.grammar_data.specs.Grammar.{Grammar}
-use Rattle.grammar_data.specs.Judging.{Verdict, good, syntax_at, too_long, Reads, verdict_of}
+use Rattle.sql_grammar.specs.Lexemes.{Lexeme, word, number, quoted, string, sign, broken, content}
+use Rattle.sql_grammar.specs.Grammar.{Grammar}
+use Rattle.sql_grammar.specs.Judging.{Verdict, good, syntax_at, too_long, Reads, verdict_of}
 use Rattle.sql_lex.specs.declared.token.Token.{Token}
 use Rattle.sql_lex.specs.declared.token.TokenKind.{TokenKind}
 use Rattle.sql_lex.specs.declared.token.TokenKind.TheVariants.{Word, Number, Quoted, Str, Sign}

@@ -9,7 +9,7 @@ mod text_laws;
 mod token;
 
 pub use lex::{Lexed, tokens, tokens_before};
-pub use piece::{Piece, Shape, inside_after, piece_at};
+pub use piece::{Piece, Shape, are_digits, inside_after, is_name_byte, piece_at};
 pub use string_part::{meaning, means};
 pub use text_laws::reading_laws;
 pub use token::{LexFault, Token, TokenKind};

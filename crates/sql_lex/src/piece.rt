@@ -39,7 +39,8 @@ fn is_blank(b: u8) -> bool
     matches!(b, b' ' | b'\t' | b'\n' | b'\r')
 }
 
-fn is_word_byte(b: u8) -> bool
+/// Whether a name without quotes may have this byte.
+pub fn is_name_byte(b: u8) -> bool
     ensures { result ≡ is_name_byte b }
 {
     b.is_ascii_alphanumeric() || b == b'_'
@@ -54,7 +55,8 @@ fn is_sign(b: u8) -> bool
     )
 }
 
-fn are_digits(bytes: &[u8]) -> bool
+/// Whether all bytes are decimal digits.
+pub fn are_digits(bytes: &[u8]) -> bool
     ensures { result ≡ list_all is_ascii_digit bytes.now }
 {
     bytes.iter().all(|b| b.is_ascii_digit())
@@ -65,7 +67,7 @@ fn run_len(bytes: &[u8]) -> usize
     ensures len { result ≡ length (run bytes.now) }
     ensures bound { result ≤ length bytes.now }
 {
-    bytes.iter().take_while(|b| is_word_byte(**b)).count()
+    bytes.iter().take_while(|b| is_name_byte(**b)).count()
 }
 
 /// The longest run of letters, digits and `_`.
@@ -293,7 +295,7 @@ fn front_at(inside: bool, bytes: &[u8]) -> Piece
     if b == b'*' {
         return star_at(inside, bytes);
     }
-    if is_word_byte(b) {
+    if is_name_byte(b) {
         return word_at(bytes);
     }
     if b == b'`' {

@@ -1,8 +1,8 @@
 ghost use Rattle.std.specs.Prelude.{◌≡◌, true};
-ghost use Rattle.grammar_data.specs.Checks.{one_token_decides, has_examples};
+ghost use Rattle.sql_grammar.specs.Checks.{one_token_decides, has_examples};
 ghost use Rattle.sql_lex.specs.Texts.{EachTextReads, EachTextReadsOnce};
 
-use grammar_data::{Language, laws};
+use sql_grammar::{Language, laws};
 
 /// Each text reads by a grammar in exactly one way, if one token decides each choice of it and each rule has an example.
 /// It does nothing when it runs.

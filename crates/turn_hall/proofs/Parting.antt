@@ -7,37 +7,34 @@ use native.Mathlib.Decide.{ℕ_discrete}
 use lib.ListN.{get_elem?}
 use Rattle.atomic_table.specs.Table.{State, Me, step, opening, Allows, Splits, Joins}
 use Rattle.atomic_table.proofs.Lists.{at_set, set_else, at_last}
-use Rattle.std.specs.Prelude.{Result, Ok}
+use Rattle.std.specs.Prelude.{Option, Some}
 use Rattle.turn_hall.specs.declared.view.View.{View}
 use Rattle.turn_hall.specs.declared.view.Stage.{Stage}
 use Rattle.turn_hall.specs.declared.view.Stage.TheVariants.{Idle}
 use Rattle.turn_hall.specs.Prefixes.{IsPrefix, longer}
 use Rattle.turn_hall.specs.Numbers.{Has, AreParts, table_of, without}
-use Rattle.turn_hall.specs.Rule.{Desk, home, away, homes_of, value_at, tickets, Owned, Knows, Shows, InStage, Fits, Taken, Turns}
+use Rattle.turn_hall.specs.Rule.{Desk, home, away, first_open, homes_of, value_at, Owned, Knows, Shows, InStage, Fits, Taken, Turns}
 use Rattle.turn_hall.specs.Moves.{first_view, quiet, cut, given, copied, joined, learned}
 use Rattle.turn_hall.proofs.Lists.{put, put_here, put_else, there, changed, at_end, only, longer_begins, begins_longer, longer_left, longer_right}
 use Rattle.turn_hall.proofs.Pairs.{has_without, has_alone, without_has, alone_has, has_append, append_has, some_pair, not_empty, has_table, table_has}
-use Rattle.turn_hall.proofs.Views.{one_view, in_line_same, in_line_more, owned_set, owned_more, known_set, known_more, taken_set, taken_more, not_out}
+use Rattle.turn_hall.proofs.Views.{one_view, owned_set, owned_more, known_set, known_more, taken_set, taken_more, not_out}
 use Rattle.turn_hall.proofs.Turning.{stands}
 
 module _ {T E Q : Type 0} (history : T → List E) (part_of : T → ℕ → Q) where
   pub opens : (x : T) (numbers first : ℕ) → 0 < numbers
-      → Turns history part_of numbers first (opening ((first + length (history x)) ∷ 0 ∷ 0 ∷ []) (Ok x ∷ []) (first_view history part_of numbers x))
+      → Turns history part_of numbers first (opening ((first + length (history x)) ∷ first_open ∷ []) (Some x ∷ []) (first_view history part_of numbers x))
   opens x numbers first some_number = record {
     desk = home x;
     now = history x;
-    ticket = 0;
-    serving = 0;
-    turn = λ _. 0;
+    door = first_open;
     owner = λ _. 0;
     knower = 0;
     words = refl;
     homes = refl;
     shows = refl;
-    small = omega arith;
-    line = refl;
+    kept = omega arith;
     taken = tt;
-    each = only (Fits history part_of numbers (home x) (history x) 0 0 (λ _. 0) (λ _. 0)) (first_view history part_of numbers x) record {
+    each = only (Fits history part_of numbers (home x) (history x) (λ _. 0)) (first_view history part_of numbers x) record {
       stage = tt;
       seen = ([], sym (Rattle.std.proofs.Common.append-nil (history x)));
       told = (history x, refl);
@@ -54,43 +51,43 @@ module _ {T E Q : Type 0} (history : T → List E) (part_of : T → ℕ → Q) (
   V = View T E Q
 
   abbrev St : Type 0
-  St = State (Result T ℕ) V
+  St = State (Option T) V
 
   abbrev M : Type 0
-  M = Me (Result T ℕ) V
+  M = Me (Option T) V
 
   abbrev Rule : St → Type 0
   Rule = Turns history part_of numbers first
 
-  -- a stage that has no ticket fits anywhere
-  idle_fits : (d : Desk T) (now : List E) (ticket serving : ℕ) (turn : ℕ → ℕ) (j : ℕ) (seen : List E) (st : Stage T) → st ≡ Idle → InStage history part_of d now ticket serving turn j seen st
-  idle_fits d now ticket serving turn j seen st e = subst (InStage history part_of d now ticket serving turn j seen) (sym e) tt
+  -- a stage without the value fits anywhere
+  idle_fits : (d : Desk T) (now : List E) (j : ℕ) (seen : List E) (st : Stage T) → st ≡ Idle → InStage history part_of d now j seen st
+  idle_fits d now j seen st e = subst (InStage history part_of d now j seen) (sym e) tt
 
   -- a view's numbers are another seat's afterwards
-  moved : (s : St) (r : Rule s) (owner' : ℕ → ℕ) (j : ℕ) (u : V) → Fits history part_of numbers r.desk r.now r.ticket r.serving r.turn r.owner j u → ((n : ℕ) → r.owner n ≡ j → owner' n ≡ j)
-      → Fits history part_of numbers r.desk r.now r.ticket r.serving r.turn owner' j u
+  moved : (s : St) (r : Rule s) (owner' : ℕ → ℕ) (j : ℕ) (u : V) → Fits history part_of numbers r.desk r.now r.owner j u → ((n : ℕ) → r.owner n ≡ j → owner' n ≡ j)
+      → Fits history part_of numbers r.desk r.now owner' j u
   moved s r owner' j u f same = record { stage = f.stage; seen = f.seen; told = f.told; heard = f.heard; held = λ m q h. let g = f.held m q h in (g.0, same m g.1, g.2); bare = f.bare }
 
   -- What the rule says of the value that a seat with all numbers leaves in the slot
   Ends : St → V → Type 0
-  Ends s v = (x : T) × (get_elem? s.homes 0 ≡ some (some (Ok x))) × (history x ≡ v.seen) × AreParts (part_of x) v.held
+  Ends s v = (x : T) × (get_elem? s.homes 0 ≡ some (some (Some x))) × (history x ≡ v.seen) × AreParts (part_of x) v.held
 
   ends : (s : St) (r : Rule s) (id : ℕ) (v : V) → get_elem? s.views id ≡ some v → v.stage ≡ Idle → ((j : ℕ) (u : V) → get_elem? s.views j ≡ some u → u.held ≢ [] → j ≡ id) → v.seen ≡ r.now
-      → (d : Desk T) → r.desk ≡ d → Taken s.views r.serving d → Ends s v
+      → (d : Desk T) → r.desk ≡ d → Taken s.views d → Ends s v
   unfolding Ends
   ends s r id v at idle one all (home x) same h = (
     x,
-    ap (λ (l : List (maybe.Option (Result T ℕ))). get_elem? l 0) (r.homes ∙ ap homes_of same),
+    ap (λ (l : List (maybe.Option (Option T))). get_elem? l 0) (r.homes ∙ ap homes_of same),
     sym (all ∙ subst (λ (d : Desk T). Shows history part_of d r.now) same r.shows),
     λ m q g. ((r.each id v at).held m q g).2 ∙ ap (λ (d : Desk T). part_of (value_at d) m) same,
   )
   ends s r id v at idle one all (away j x) same h =
-      let u : V = h.0 in let e : j ≡ id = one j u h.1 (λ none. not_out u ((r.each j u h.1).bare none) r.serving x h.2) in
-      absurd (not_out v idle r.serving x (ap (λ (z : V). z.stage) (one_view s.views id j v u at h.1 e) ∙ h.2))
+      let u : V = h.0 in let e : j ≡ id = one j u h.1 (λ none. not_out u ((r.each j u h.1).bare none) x h.2) in
+      absurd (not_out v idle x (ap (λ (z : V). z.stage) (one_view s.views id j v u at h.1 e) ∙ h.2))
 
   -- a seat that has all numbers, at the end
   pub closes : (s : St) (id : ℕ) (v : V) → Rule s → get_elem? s.views id ≡ some v → v.stage ≡ Idle → ((n : ℕ) → n < numbers → (q : Q) × Has v.held n q)
-      → (x : T) × (get_elem? s.homes 0 ≡ some (some (Ok x))) × (history x ≡ v.seen) × AreParts (part_of x) v.held
+      → (x : T) × (get_elem? s.homes 0 ≡ some (some (Some x))) × (history x ≡ v.seen) × AreParts (part_of x) v.held
   unfolding Ends
   closes s id v r at idle all =
       let mine = r.each id v at in
@@ -106,10 +103,10 @@ module _ {T E Q : Type 0} (history : T → List E) (part_of : T → ℕ → Q) (
       → Rule record { words = s.words; homes = s.homes; views = set s.views id left ++ right ∷ [] }
   parts s r id v left right owner' at idle idle_l idle_r seen_l seen_r told_l heard_l told_r heard_r kept lefts rights others owned =
       let mine = r.each id v at in let views' : List V = set s.views id left in
-      let F : ℕ → V → Type 0 = Fits history part_of numbers r.desk r.now r.ticket r.serving r.turn r.owner in let F' : ℕ → V → Type 0 = Fits history part_of numbers r.desk r.now r.ticket r.serving r.turn owner' in
+      let F : ℕ → V → Type 0 = Fits history part_of numbers r.desk r.now r.owner in let F' : ℕ → V → Type 0 = Fits history part_of numbers r.desk r.now owner' in
       let each' : (j : ℕ) (u : V) → get_elem? views' j ≡ some u → F' j u = changed F F' s.views id left r.each
       record {
-        stage = idle_fits r.desk r.now r.ticket r.serving r.turn id left.seen left.stage idle_l;
+        stage = idle_fits r.desk r.now id left.seen left.stage idle_l;
         seen = subst (λ (l : List E). IsPrefix l r.now) (sym seen_l) mine.seen;
         told = subst (λ (l : List E). IsPrefix l r.now) (sym told_l) mine.told;
         heard = subst (λ (l : List E). IsPrefix l r.now) (sym heard_l) mine.heard;
@@ -119,7 +116,7 @@ module _ {T E Q : Type 0} (history : T → List E) (part_of : T → ℕ → Q) (
       (λ j u ne f. moved s r owner' j u f (λ n e. others j n ne e)) in
       let size : length views' ≡ length s.views = length-set s.views id left in
       let fits_r : F' (length s.views) right = record {
-        stage = idle_fits r.desk r.now r.ticket r.serving r.turn (length s.views) right.seen right.stage idle_r;
+        stage = idle_fits r.desk r.now (length s.views) right.seen right.stage idle_r;
         seen = subst (λ (l : List E). IsPrefix l r.now) (sym seen_r) mine.seen;
         told = (r.now, ap (λ (l : List E). l ++ r.now) (sym told_r));
         heard = (r.now, ap (λ (l : List E). l ++ r.now) (sym heard_r));
@@ -129,17 +126,14 @@ module _ {T E Q : Type 0} (history : T → List E) (part_of : T → ℕ → Q) (
       record {
         desk = r.desk;
         now = r.now;
-        ticket = r.ticket;
-        serving = r.serving;
-        turn = r.turn;
+        door = r.door;
         owner = owner';
         knower = r.knower;
         words = r.words;
         homes = r.homes;
         shows = r.shows;
-        small = r.small;
-        line = ap (λ (z : ℕ). r.serving + z) (in_line_more views' right idle_r ∙ in_line_same s.views id v left at (ap tickets idle_l ∙ sym (ap tickets idle))) ∙ r.line;
-        taken = taken_more r.desk views' r.serving right (taken_set r.desk s.views r.serving id left v at (not_out v idle r.serving) r.taken);
+        kept = r.kept;
+        taken = taken_more r.desk views' right (taken_set r.desk s.views id left v at (not_out v idle) r.taken);
         each = λ j u e. ⊎_elim (λ (t : (j < length views') × (get_elem? views' j ≡ some u)). each' j u t.1)
             (λ (t : (j ≡ length views') × (right ≡ u)). subst (λ (z : ℕ × V). F' z.0 z.1) (λ k. (sym (t.0 ∙ size) k, t.1 k)) fits_r) (at_end views' right u j e);
         owned = owned;
@@ -165,7 +159,7 @@ module _ {T E Q : Type 0} (history : T → List E) (part_of : T → ℕ → Q) (
       (λ m h. owned_more (set s.views id v) r.owner (copied v) m (owned_set s.views r.owner id v v m at (λ q g. (q, g)) (r.owned m h)))
 
   module _ (s : St) (r : Rule s) (id other : ℕ) (v w : V) (at : get_elem? s.views id ≡ some v) (apart : other ≢ id) (at_w : get_elem? s.views other ≡ some w) where
-    -- the other's numbers and tickets go to the seat
+    -- the other's numbers go to the seat
     abbrev move : ℕ → ℕ
     move = put (λ j. j) other id
 
@@ -225,9 +219,9 @@ module _ {T E Q : Type 0} (history : T → List E) (part_of : T → ℕ → Q) (
       let at_w : get_elem? s.views other ≡ some w = sym (set_else s.views id other both apart) ∙ at_w' in
       let mine = r.each id v at in let theirs = r.each other w at_w in
       let move : ℕ → ℕ = put (λ j. j) other id in let owner' : ℕ → ℕ = λ n. move (r.owner n) in
-      let F' : ℕ → V → Type 0 = Fits history part_of numbers r.desk r.now r.ticket r.serving r.turn owner' in
+      let F' : ℕ → V → Type 0 = Fits history part_of numbers r.desk r.now owner' in
       let fits_both : F' id both = record {
-        stage = idle_fits r.desk r.now r.ticket r.serving r.turn id both.seen both.stage idle_v;
+        stage = idle_fits r.desk r.now id both.seen both.stage idle_v;
         seen = longer_begins v.seen w.seen r.now mine.seen theirs.seen;
         told = mine.seen;
         heard = theirs.seen;
@@ -240,17 +234,14 @@ module _ {T E Q : Type 0} (history : T → List E) (part_of : T → ℕ → Q) (
       record {
         desk = r.desk;
         now = r.now;
-        ticket = r.ticket;
-        serving = r.serving;
-        turn = r.turn;
+        door = r.door;
         owner = owner';
         knower = move r.knower;
         words = r.words;
         homes = r.homes;
         shows = r.shows;
-        small = r.small;
-        line = ap (λ (z : ℕ). r.serving + z) (in_line_same views' other w spent at_w' (sym (ap tickets idle_w)) ∙ in_line_same s.views id v both at refl) ∙ r.line;
-        taken = taken_set r.desk views' r.serving other spent w at_w' (not_out w idle_w r.serving) (taken_set r.desk s.views r.serving id both v at (not_out v idle_v r.serving) r.taken);
+        kept = r.kept;
+        taken = taken_set r.desk views' other spent w at_w' (not_out w idle_w) (taken_set r.desk s.views id both v at (not_out v idle_v) r.taken);
         each = λ j u e. ⊎_elim
             (λ (t : (j ≡ other) × (spent ≡ u)). subst (λ (z : ℕ × V). F' z.0 z.1) (λ k. (sym t.0 k, t.1 k)) fits_spent)
             (λ (t : (j ≢ other) × (get_elem? views' j ≡ some u)). ⊎_elim

@@ -1,5 +1,5 @@
 -- What clauses say of a hall, its passes and its notes.
-use Rattle.std.specs.Prelude.{◌≡◌, ℕ, ◌<◌, List, [], ◌∷◌, length, Result, Err}
+use Rattle.std.specs.Prelude.{◌≡◌, ℕ, ◌<◌, List, [], ◌∷◌, Option, None}
 use Rattle.atomic_table.specs.declared.shared.Seat.{Seat}
 use Rattle.turn_hall.specs.declared.view.View.{View}
 use Rattle.turn_hall.specs.declared.view.Stage.TheVariants.{Idle, Out}
@@ -9,7 +9,7 @@ use Rattle.turn_hall.specs.declared.stands.Stands.{Ghosts}
 use Rattle.turn_hall.specs.Numbers.{Has}
 
 abbrev pub Pass : Type 0 → Type 0 → Type 0 → Type 0
-Pass T E Q = Seat (Result T ℕ) (View T E Q)
+Pass T E Q = Seat (Option T) (View T E Q)
 
 module _ {T E Q : Type 0} where
   abbrev pub IsPassOf : Hall T E Q → Pass T E Q → Type 0
@@ -36,13 +36,13 @@ module _ {T E Q : Type 0} where
   abbrev pub HoldsSome : Pass T E Q → Type 0
   HoldsSome p = (n : ℕ) × HoldsNumber p n
 
-  -- the pass has no value out, and waits for none
+  -- the pass has no value out
   abbrev pub Rests : Pass T E Q → Type 0
   Rests p = (p.me.0.stage ≡ Idle) × (p.me.1 ≡ [])
 
   -- the value is out with the pass, which took it as x and has seen its list
   abbrev pub IsOut : (T → List E) → Pass T E Q → T → Type 0
-  IsOut history p x = (t : ℕ) × (p.me.0.stage ≡ Out t x) × (p.me.1 ≡ (0, Err (length (seen_by p))) ∷ []) × (seen_by p ≡ history x)
+  IsOut history p x = (p.me.0.stage ≡ Out x) × (p.me.1 ≡ (0, None) ∷ []) × (seen_by p ≡ history x)
 
   -- the parts of the numbers that the pass doesn't hold, of those below a count, are the same
   abbrev pub KeepsOthers : (T → ℕ → Q) → ℕ → Pass T E Q → T → T → Type 0

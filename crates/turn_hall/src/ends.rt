@@ -1,11 +1,10 @@
 //! How a hall is made, and taken apart.
-ghost use Rattle.std.specs.Prelude.{◌≡◌, ℕ, ◌+◌, ◌^◌, ◌<◌, ◌↔◌, [], ◌∷◌, length, IfOk, IfErr, Ok};
+ghost use Rattle.std.specs.Prelude.{◌≡◌, ℕ, ◌+◌, ◌^◌, ◌<◌, ◌↔◌, [], ◌∷◌, length, IfOk, IfErr, Some};
 ghost use Rattle.turn_hall.specs.Numbers.{AreParts};
 ghost use Rattle.turn_hall.specs.Passes.{IsPassOf, seen_by, held_by, Holds, HoldsNumber, Rests, first_of, numbers_of};
 
-use crate::hall::{Hall, Opening, Pass};
+use crate::hall::{Hall, OPEN, Opening, Pass};
 use crate::stands::Stands;
-use crate::turn::value_of;
 use crate::view::Place;
 use atomic_table::{Refused, Table};
 use std::alloc::{AllocError, Global};
@@ -31,9 +30,9 @@ impl<T: Stands> Hall<T> {
             value: Snapshot::of(&value),
             first,
         };
-        slots.push_reserved(Ok(value));
-        match Table::new(alloc, &[history, 0, 0], slots, &about) {
-            Ok((row, pass)) => Ok((Hall { row }, pass)),
+        slots.push_reserved(Some(value));
+        match Table::new(alloc, &[history, OPEN], slots, &about) {
+            Ok((row, pass)) => Ok((Hall { row, first }, pass)),
             Err(Refused { slots }) => Err((only_value(slots), AllocError)),
         }
     }
@@ -46,19 +45,19 @@ impl<T: Stands> Hall<T> {
         ensures seen { T.history result ≡ seen_by pass }
         ensures parts { AreParts (T.part_of result) (held_by pass) }
     {
-        let Hall { row } = self;
+        let Hall { row, first: _ } = self;
         let mut closed = row.close_with(pass);
         let place = closed.take(0);
         closed.free();
-        value_of(place)
+        place.unwrap()
     }
 }
 
 fn only_value<T>(mut slots: Vec<Place<T>>) -> T
-    requires { (x : T) × (slots.items ≡ Ok x ∷ []) }
-    ensures { (x : T) → slots.items ≡ Ok x ∷ [] → result ≡ x }
+    requires { (x : T) × (slots.items ≡ Some x ∷ []) }
+    ensures { (x : T) → slots.items ≡ Some x ∷ [] → result ≡ x }
 {
     let place = slots.pop();
     slots.destroy_empty();
-    value_of(place.unwrap())
+    place.unwrap().unwrap()
 }

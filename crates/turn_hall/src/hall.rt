@@ -1,5 +1,5 @@
-//! The hall: a table of three words and one slot, under its rule. The words are the history, which is a first number plus the
-//! number of entries, the next ticket, and the ticket that is served. The slot has the value, or a count while the value is out.
+//! The hall: a table of two words and one slot, under its rule. The words are the history, which is a first number plus the
+//! number of entries, and the door. The slot has the value, or nothing while the value is out.
 ghost use Rattle.std.specs.Prelude.{◌≡◌, []};
 ghost use Rattle.turn_hall.specs.declared.view.Stage.TheVariants.{Idle};
 
@@ -11,9 +11,22 @@ use std::snapshot::Snapshot;
 
 pub(crate) const HISTORY: usize = 0;
 
-pub(crate) const TICKET: usize = 1;
+pub(crate) const DOOR: usize = 1;
 
-pub(crate) const SERVING: usize = 2;
+/// The value is out, and no thread sleeps before the door.
+pub(crate) const SHUT: u64 = 0;
+
+/// The value is out, and threads may sleep before the door.
+pub(crate) const AWAITED: u64 = 1;
+
+/// The same, and one of them asks that the door be left to those who have slept.
+pub(crate) const ASKED: u64 = 2;
+
+/// The value is at home, for any pass to take.
+pub(crate) const OPEN: u64 = 3;
+
+/// The value is at home, for one who has slept before the door.
+pub(crate) const LEFT: u64 = 4;
 
 /// What the rule is told as the hall is made: the value, and the number from which the history counts.
 #[derive(Drop)]
@@ -46,11 +59,13 @@ pub type Row<T> = Table<
     Global,
 >;
 
-/// A value that one thread has at a time, in the order of tickets.
+/// A value that one thread has at a time.
 #[derive(Drop)]
 pub struct Hall<T: Stands> {
     pub(crate) row: Row<T>,
-    ghost sized: { (row.shared.table_id.words ≡ 3) × (row.shared.table_id.slots ≡ 1) },
+    pub(crate) first: u64,
+    ghost sized: { (row.shared.table_id.words ≡ 2) × (row.shared.table_id.slots ≡ 1) },
+    ghost counted: { first ≡ row.shared.key.first },
 }
 
 /// What a pass had seen. It holds no number.

@@ -1,4 +1,4 @@
-//! A hall in which threads take turns at one value, in the order of tickets, and see its list of entries grow.
+//! A hall in which threads take turns at one value, and see its list of entries grow.
 #![tactic(auto)]
 
 mod ends;

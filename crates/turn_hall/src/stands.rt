@@ -23,3 +23,22 @@ pub trait Stands {
     fn entries(&self) -> u64
         ensures { result ≡ length (history self.now) };
 }
+
+/// A boxed value stands for what it contains, and goes from thread to thread as a pointer.
+impl<T: Stands> Stands for Box<T> {
+    type Entry = T::Entry;
+
+    type Part = T::Part;
+
+    ghost history = { λ b. T.history b.value };
+
+    ghost part_of = { λ b. T.part_of b.value };
+
+    ghost numbers = { λ b. T.numbers b.value };
+
+    ghost work = { λ b. T.work b.value };
+
+    fn entries(&self) -> u64 {
+        (**self).entries()
+    }
+}

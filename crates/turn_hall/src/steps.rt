@@ -4,25 +4,25 @@ use crate::view::{Place, View};
 use atomic_table::{Join, Play, Split};
 use std::marker::{Brand, PhantomData};
 
-/// A ticket is drawn, unless another seat drew it.
-pub(crate) struct Draw;
+/// The value is taken and the door shut, unless the door is another than it was.
+pub(crate) struct Take;
 
-impl<T, E, Q> Play<Place<T>, View<T, E, Q>> for Draw {
-    ghost use Rattle.turn_hall.specs.Moves.{drew};
+impl<T: Stands> Play<Place<T>, View<T, T::Entry, T::Part>> for Take {
+    ghost use Rattle.turn_hall.specs.Moves.{tried};
 
-    ghost then = { drew };
+    ghost then = { tried T.history T.part_of };
 }
 
-/// The ticket that is served is read, and the value taken where it is the seat's.
-pub(crate) struct Look;
+/// A shut door is marked.
+pub(crate) struct Mark;
 
-impl<T: Stands> Play<Place<T>, View<T, T::Entry, T::Part>> for Look {
-    ghost use Rattle.turn_hall.specs.Moves.{looked};
+impl<T, E, Q> Play<Place<T>, View<T, E, Q>> for Mark {
+    ghost use Rattle.turn_hall.specs.Moves.{same};
 
-    ghost then = { looked T.history T.part_of };
+    ghost then = { same };
 }
 
-/// The entries that were made are added to the history word.
+/// The entries that were made are counted in the history word.
 pub(crate) struct Add;
 
 impl<T: Stands> Play<Place<T>, View<T, T::Entry, T::Part>> for Add {
@@ -31,7 +31,7 @@ impl<T: Stands> Play<Place<T>, View<T, T::Entry, T::Part>> for Add {
     ghost then = { added T.history T.part_of };
 }
 
-/// The value is given back, and the next ticket is served.
+/// The value is given back, and the door opened.
 pub(crate) struct Hand;
 
 impl<T: Stands> Play<Place<T>, View<T, T::Entry, T::Part>> for Hand {

@@ -1,16 +1,14 @@
 //! What the slot of a hall has, and what a seat knows.
 use std::collections::LinkedList;
 
-/// The slot: the value, or how many entries it had as it was taken out.
-pub type Place<T> = Result<T, u64>;
+/// The slot: the value, or none while it is out.
+pub type Place<T> = Option<T>;
 
 /// What a seat does. No value of it is made.
 pub enum Stage<T> {
     Idle,
-    /// It has this ticket.
-    Waiting(u64),
-    /// It has this ticket, and the value is out with it. The value is as it was taken out.
-    Out(u64, T),
+    /// The value is out with it, and was so as it was taken out.
+    Out(T),
 }
 
 /// What a seat knows. No value of it is made.

@@ -1,4 +1,4 @@
-use Rattle.ddl_plan.specs.Outcome.{outcome}
+use Rattle.rules_decide.specs.Outcome.{outcome}
 use Rattle.dd_engine.specs.Known.{IsKnown, left_in}
 use Rattle.dd_engine.proofs.decided_over.decided_over.Given as goal
 

@@ -1,9 +1,8 @@
 use Rattle.std.proofs.Common.{List, ap, ◌∙◌}
 use Rattle.std.specs.List.{list_any}
-use Rattle.ddl_decided.specs.Choices.{Change}
-use Rattle.ddl_decided.specs.Decided.{change_of}
-use Rattle.ddl_decided.specs.declared.decided.Edit.{Edit}
-use Rattle.dd_engine.specs.History.{takes_number}
+use Rattle.rules_outcome.specs.Choices.{Change, takes_number}
+use Rattle.rules_outcome.specs.Decided.{change_of}
+use Rattle.rules_outcome.specs.declared.decided.Edit.{Edit}
 use Rattle.dd_engine.proofs.Settling.{any_mapped}
 use Rattle.dd_engine.proofs.settle.draws_number.Goals as goal
 

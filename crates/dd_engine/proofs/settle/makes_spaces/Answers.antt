@@ -1,8 +1,8 @@
 use Rattle.std.proofs.Common.{List, ap, ◌∙◌}
 use Rattle.std.specs.List.{list_any}
-use Rattle.ddl_decided.specs.Choices.{Change, makes_space}
-use Rattle.ddl_decided.specs.Decided.{change_of}
-use Rattle.ddl_decided.specs.declared.decided.Edit.{Edit}
+use Rattle.rules_outcome.specs.Choices.{Change, makes_space}
+use Rattle.rules_outcome.specs.Decided.{change_of}
+use Rattle.rules_outcome.specs.declared.decided.Edit.{Edit}
 use Rattle.dd_engine.proofs.Settling.{any_mapped}
 use Rattle.dd_engine.proofs.settle.makes_spaces.Goals as goal
 

@@ -1,6 +1,6 @@
 use Rattle.std.proofs.Common.{◌≡◌, refl, sym, arith}
 use Rattle.dd_catalog.specs.Walks.{fine}
-use Rattle.ddl_decided.specs.Decided.{choice_of}
+use Rattle.rules_outcome.specs.Decided.{choice_of}
 use Rattle.dd_engine.proofs.settle.settle_edits.Goals as goal
 
 pub returns-then-next : goal.returns-then-next

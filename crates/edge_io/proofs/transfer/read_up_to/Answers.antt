@@ -1,4 +1,4 @@
-use Rattle.std.proofs.Common.{◌+◌, ◌≤◌, length, length-take, arith}
+use Rattle.std.proofs.Common.{◌+◌, length-take, arith}
 use Rattle.edge_io.proofs.Told.{consumes_within}
 use Rattle.edge_io.proofs.transfer.read_up_to.Goals as goal
 

@@ -1,4 +1,4 @@
-use Rattle.std.proofs.Common.{◌+◌, ◌≤◌, length, drop, length-drop, arith}
+use Rattle.std.proofs.Common.{drop, length-drop, arith}
 use Rattle.std.proofs.lemmas.List.{take_all}
 use Rattle.edge_io.proofs.Told.{appends_more}
 use Rattle.edge_io.proofs.transfer.write_all.Goals as goal

@@ -9,7 +9,7 @@ returns-then-same c =
     let a = c.args.name.now in
     let b = c.args.folded.now in
     c.has_no_capital.ensures
-    ∙ ap (list_all is_no_capital) (c.as_bytes.ensures.value ∙ c.as_str.ensures)
+    ∙ ap (list_all is_no_capital) (c.as_bytes.ensures.value ∙ c.as_str.ensures.text)
     ∙ ap (λ t. t && list_all is_no_capital b) (sym c.if-same.true ∙ c.same.ensures)
     ∙ folds_is a b
 

@@ -20,4 +20,5 @@ objects-preserved g c =
       seen = rw (c.in_ok-pick_table.ensures.names) (picked_step (sights (g.L.Lookup.known c.args.look.now)) is_there objects c.objects.object-index c.object-item.result c.in_ok-pick_table.field-0 c.objects.tables.names _ lt c.object-item.is c.in_ok-pick_table.ensures.seen c.objects.invariant.seen);
       changes = c.in_ok-pick_table.ensures.changes c.objects.invariant.changes;
       before = c.in_ok-pick_table.ensures.before c.objects.invariant.before;
+      ids = c.in_ok-pick_table.ensures.ids c.objects.invariant.ids;
     }

@@ -4,8 +4,8 @@ use Rattle.std.proofs.lemmas.Result.{err_from_is_err_and}
 use Rattle.dd_catalog.specs.Walks.{run, every}
 use Rattle.dd_catalog.specs.Follow.{sights}
 use Rattle.dd_catalog.specs.LoopLaws.{every_step, every_stop}
-use Rattle.ddl_decided.specs.Choices.{Change}
-use Rattle.ddl_decided.specs.Decided.{change_of}
+use Rattle.rules_outcome.specs.Choices.{Change}
+use Rattle.rules_outcome.specs.Decided.{change_of}
 use Rattle.rules_named.specs.Named.{object_in}
 use Rattle.rules_schema.specs.Drops.{gone}
 use Rattle.rules_schema.specs.Schemas.{may_go}
@@ -33,4 +33,5 @@ names-preserved g c =
           ∙ ap (λ change. map as_gone (take c.names.name-index names) ++ change ∷ []) (c.in_ok-object_gone.ensures.change ∙ ap as_gone c.name-item.is)
           ∙ sym (map_more as_gone names c.names.name-index c.name-item.result lt);
       before = c.in_ok-add_edit.ensures.before known c.names.invariant.before c.in_ok-object_gone.ensures.before;
+      ids = c.in_ok-add_edit.ensures.ids known c.names.invariant.ids c.in_ok-object_gone.ensures.ids;
     }

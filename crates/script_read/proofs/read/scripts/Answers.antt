@@ -13,9 +13,9 @@ moved r a b c (inr e) f = inr (e ∙ f)
 pub returns-in-Ok : goal.returns-in-Ok
 returns-in-Ok c =
     let ok = c.in-Ok.ensures.cases in
-    record { exact = moved c.scripts_in.result _ _ _ c.scripts_in.ensures.exact (ap scripts_in ok.0 ∙ sym (good_text c.args.bytes.now c.if-bytes-gt-MAX_INPUT.false ok.1)); few = c.scripts_in.ensures.few }
+    record { exact = moved c.scripts_in.result _ _ _ c.scripts_in.ensures.exact (ap scripts_in ok.0 ∙ sym (good_text c.args.bytes.now c.if-bytes-gt-MAX_INPUT.false ok.1)); few = c.scripts_in.ensures.few; named = c.scripts_in.ensures.named }
 
 pub returns-in-Err : goal.returns-in-Err
 returns-in-Err c =
     let err = c.in-Err.ensures.cases in
-    record { exact = inr (ap (λ at. Err (NotUtf8 at)) (c.valid_up_to.ensures ∙ c.in-Err.ensures.valid_len) ∙ sym (bad_text c.args.bytes.now c.if-bytes-gt-MAX_INPUT.false err.0)); few = tt }
+    record { exact = inr (ap (λ at. Err (NotUtf8 at)) (c.valid_up_to.ensures ∙ c.in-Err.ensures.valid_len) ∙ sym (bad_text c.args.bytes.now c.if-bytes-gt-MAX_INPUT.false err.0)); few = tt; named = tt }

@@ -1,5 +1,5 @@
 use Rattle.std.proofs.Common.{refl, sym, ap, ◌∙◌}
-use Rattle.grammar_data.specs.Judging.{verdict_of}
+use Rattle.sql_grammar.specs.Judging.{verdict_of}
 use Rattle.sql_lex.specs.Texts.{lexemes, reading_of}
 use Rattle.sql_lex.proofs.text_laws.reading_laws.Goals as goal
 

@@ -1,4 +1,4 @@
-use Rattle.std.proofs.Common.{◌≡◌, ◌+◌, ◌-◌, ◌<◌, ◌≤◌, ℕ, List, [], length, drop, take, ◌++◌, min, arith, sym, ap, ◌∙◌, length-append, length-drop, length-take, take-append-drop}
+use Rattle.std.proofs.Common.{◌≡◌, ◌+◌, ◌-◌, ◌<◌, ◌≤◌, ℕ, List, length, drop, take, ◌++◌, min, arith, sym, ap, ◌∙◌, length-drop, length-take, take-append-drop}
 use Rattle.std.proofs.lemmas.List.{take_at, drop_all, drop-drop}
 use Rattle.std.proofs.lemmas.Bool.Decides.{nat_tests}
 use Rattle.edge_io.specs.MemoryState.{SourceState}

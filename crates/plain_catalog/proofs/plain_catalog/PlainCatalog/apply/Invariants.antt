@@ -1,6 +1,6 @@
 use Rattle.std.proofs.Common.{◌≡◌, map}
-use Rattle.ddl_decided.specs.Choices.{applied}
-use Rattle.ddl_decided.specs.Decided.{change_of}
+use Rattle.rules_outcome.specs.Choices.{applied}
+use Rattle.rules_outcome.specs.Decided.{change_of}
 use Rattle.plain_catalog.proofs.plain_catalog.PlainCatalog.apply.Given as goal
 
 abbrev pub invariant-edits : goal.invariant-edits

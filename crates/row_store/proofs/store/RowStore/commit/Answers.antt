@@ -1,28 +1,22 @@
-use Rattle.std.proofs.Common.{◌∙◌, sym, ap, subst}
-use Rattle.disk_trait.specs.Story.{WhereTold}
-use Rattle.row_batch.specs.Rows.{applied}
-use Rattle.row_journal.specs.Value.{StandsSome}
-use Rattle.row_store.specs.Entries.{rows_of}
-use Rattle.row_store.specs.Value.{StoreValue}
-use Rattle.row_store.proofs.Laws.{committed}
-use Rattle.row_store.proofs.Standing.{stands_on, rows_pushed}
+use Rattle.std.proofs.Common.{ap}
+use Rattle.row_store.proofs.OnDisk.{without_memory, rows_carried, rows_kept, rows_read, rows_on}
 use Rattle.row_store.proofs.store.RowStore.commit.Goals as goal
 
-pub invariant_of-self-in-Done : goal.invariant_of-self-in-Done
-invariant_of-self-in-Done g c =
-    (committed c.args.batch.now.operations c.in-Ok.operations.items c.self.inside.rows.items c.prepare.new.rows.items c.apply_all.new.rows.items c.self.invariant c.prepare.ensures.rows (c.in-Ok.ensures.copies ∙ c.operations.ensures.value) c.apply_all.ensures).0
+pub returns-clause-rows_at_each_moment : goal.returns-clause-rows_at_each_moment
+returns-clause-rows_at_each_moment g c = λ on.
+    rows_carried (g.D.Disk.moment_of c.args.disk.now) (g.D.Disk.moment_of c.commit_batch.new.disk) (g.D.Disk.story c.args.disk.now) (g.D.Disk.story c.commit_batch.new.disk) c.args.self.now c.args.batch.now.operations c.commit_batch.result
+    c.commit_batch.ensures.onward c.commit_batch.ensures.any_moment (without_memory c.commit_batch.result (λ same. ap g.D.Disk.story same.1) c.commit_batch.ensures.memory) on
 
-pub returns-in-Done-clause-rows : goal.returns-in-Done-clause-rows
-returns-in-Done-clause-rows g c =
-    (committed c.args.batch.now.operations c.in-Ok.operations.items c.self.inside.rows.items c.prepare.new.rows.items c.apply_all.new.rows.items c.self.invariant c.prepare.ensures.rows (c.in-Ok.ensures.copies ∙ c.operations.ensures.value) c.apply_all.ensures).1
-    ∙ ap (λ (s : StoreValue). applied c.args.batch.now.operations s.rows) c.self.view_is
+pub returns-clause-rows_after_fault : goal.returns-clause-rows_after_fault
+returns-clause-rows_after_fault g c =
+    rows_kept (g.D.Disk.moment_of c.args.disk.now) (g.D.Disk.moment_of c.commit_batch.new.disk) (g.D.Disk.story c.args.disk.now) (g.D.Disk.story c.commit_batch.new.disk) c.args.self.now c.args.batch.now.operations c.commit_batch.result
+    c.commit_batch.ensures.fault
 
-pub returns-in-Done-clause-made : goal.returns-in-Done-clause-made
-returns-in-Done-clause-made g c =
-    λ done batches was. rows_pushed batches c.args.batch.now.operations c.args.self.now.rows (rows_of c.apply_all.new.rows.items) (returns-in-Done-clause-rows g c) was
+pub returns-clause-rows_read : goal.returns-clause-rows_read
+returns-clause-rows_read g c =
+    rows_read 0 0 (g.D.Disk.story c.args.disk.now) (g.D.Disk.story c.commit_batch.new.disk) c.args.self.now c.args.batch.now.operations c.commit_batch.result c.commit_batch.ensures.reads
 
-pub returns-in-Done-clause-stands_some : goal.returns-in-Done-clause-stands_some
-returns-in-Done-clause-stands_some g c =
-    λ done. stands_on (g.D.Disk.story c.args.disk.now) (g.D.Disk.story c.append.new.disk) c.self.inside.journal c.append.new.self c.args.batch.now.operations
-    (subst (λ (s : StoreValue). WhereTold (g.D.Disk.story c.args.disk.now) (StandsSome s.journal)) (sym c.self.view_is) c.requires.stands)
-    (λ batches stands. c.in-Done.ensures.appended batches c.args.batch.now.operations (record { is_batch = c.operations.ensures.batch; same = c.framed.ensures }) tt stands)
+pub returns-clause-on_disk : goal.returns-clause-on_disk
+returns-clause-on_disk g c =
+    rows_on 0 0 (g.D.Disk.story c.args.disk.now) (g.D.Disk.story c.commit_batch.new.disk) c.args.self.now c.args.batch.now.operations c.commit_batch.result c.commit_batch.new.self _
+    c.commit_batch.ensures.journal c.commit_batch.ensures.rows c.commit_batch.ensures.stands c.commit_batch.ensures.reads c.commit_batch.ensures.settled

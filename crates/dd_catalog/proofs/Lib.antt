@@ -1,0 +1,2 @@
+pub mod ObjectNames
+pub mod Paths

@@ -1,8 +1,0 @@
-use Rattle.ddl_plan.proofs.Kept.{outcome_kept, outcome_makes}
-use Rattle.ddl_plan.proofs.laws.outcomes_keep_validity.Goals as goal
-
-pub returns-clause-kept : goal.returns-clause-kept
-returns-clause-kept c = outcome_kept
-
-pub returns-clause-one_space : goal.returns-clause-one_space
-returns-clause-one_space c = outcome_makes

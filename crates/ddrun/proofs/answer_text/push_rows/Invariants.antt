@@ -1,7 +1,0 @@
-use Rattle.std.proofs.Common.{◌≡◌, ◌++◌, take}
-use Rattle.std.specs.List.{flat_map}
-use Rattle.ddrun.specs.Printed.{row_text}
-use Rattle.ddrun.proofs.answer_text.push_rows.Given as goal
-
-abbrev pub invariant-rows : goal.invariant-rows
-invariant-rows l = l.out.items ≡ l.fn.out.items ++ flat_map row_text (take l.row-index l.rows)

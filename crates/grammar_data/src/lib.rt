@@ -1,8 +1,0 @@
-//! Grammars as values: what their sentences stand for, how they are read, and the laws that hold of every grammar.
-#![tactic(auto)]
-
-mod language;
-#[cfg(test)]
-mod tests;
-
-pub use language::{Language, laws};

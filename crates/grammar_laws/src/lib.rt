@@ -1,6 +1,0 @@
-//! What holds of the grammar of statements, computed.
-#![tactic(auto)]
-
-mod laws;
-
-pub use laws::statement_laws;

@@ -1,7 +1,0 @@
-use Rattle.std.proofs.Common.{◌≡◌, ◌++◌, drop}
-use Rattle.std.specs.Prelude.{not, filter}
-use Rattle.rename_table.specs.Puts.{is_changed}
-use Rattle.rename_table.proofs.children.kept_children.Given as goal
-
-abbrev pub invariant-kept : goal.invariant-kept
-invariant-kept l = l.children ++ filter (λ child. not (is_changed l.puts child)) (drop l.child-index l.before) ≡ filter (λ child. not (is_changed l.puts child)) l.before

@@ -1,4 +1,0 @@
-pub mod Columns
-pub mod ForeignKeys
-pub mod Keys
-pub mod Words

@@ -1,9 +1,0 @@
-use Rattle.rule_laws.proofs.KeysFit.{foreign_keys_are_fit}
-use Rattle.rule_laws.proofs.WellSpelled.{well_spelled}
-use Rattle.rule_laws.proofs.laws.foreign_key_laws.Goals as goal
-
-pub returns-clause-fit : goal.returns-clause-fit
-returns-clause-fit c = foreign_keys_are_fit
-
-pub returns-clause-parents : goal.returns-clause-parents
-returns-clause-parents c = well_spelled

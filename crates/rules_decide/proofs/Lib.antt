@@ -1,0 +1,4 @@
+pub mod Whole
+pub mod ShowsKept
+pub mod Kept
+pub mod Named

@@ -1,0 +1,63 @@
+-- Checks over a whole catalog.
+use Rattle.std.specs.Prelude.{◌≡◌, Some, List, [], ◌∷◌, Bool, true, is_some, refl}
+use Rattle.std.specs.List.{AllByRecursion}
+use Rattle.std.proofs.Common.{ap}
+use Rattle.dd_names.specs.declared.object_name.ObjectKey.{ObjectKey}
+use Rattle.dd_errors.specs.Errors.{ErrorValue}
+use Rattle.sql_ast.specs.declared.session.SessionState.{SessionState}
+use Rattle.sql_ast.specs.declared.statement.Statement.{Statement}
+use Rattle.sql_ast.specs.declared.statement.Statement.TheVariants as is
+use Rattle.sql_ast.specs.declared.show.ShowStatement.{ShowStatement}
+use Rattle.sql_ast.specs.declared.show.ShowStatement.TheVariants as shows
+use Rattle.sql_ast.specs.declared.table.TableBody.{TableBody}
+use Rattle.sql_ast.specs.declared.table.TableBody.TheVariants as bodies
+use Rattle.sql_ast.specs.declared.table.TableStatement.{TableStatement}
+use Rattle.sql_ast.specs.declared.table.TableStatement.TheVariants as tables
+use Rattle.sql_types.specs.declared.words.ObjRef.{ObjRef}
+use Rattle.dd_catalog.specs.Catalog.{Catalog, sight_of, all_of}
+use Rattle.dd_catalog.specs.Sights.{Sight}
+use Rattle.dd_catalog.specs.Walks.{Walk, done, refuse, ask, run, asked}
+use Rattle.dd_catalog.specs.WalkLaws.{Look, Extends, IsOf, IsSettled, run_agrees, run_more}
+use Rattle.rules_outcome.specs.Choices.{Choice}
+use Rattle.rules_decide.specs.Outcome.{body_outcome, table_outcome, show_outcome, outcome, is_body_decided, is_table_decided, is_show_decided, is_decided}
+
+-- no key of a whole catalog is unknown
+pub settled : (cat : Catalog) (check : Walk ErrorValue Choice) → IsSettled (run (all_of cat) check)
+settled cat (done choice) = tt
+settled cat (refuse error) = tt
+settled cat (ask key go) = settled cat (go (sight_of cat key))
+
+keys_agree : (cat other : Catalog) (keys : List ObjectKey) → AllByRecursion (λ key. sight_of cat key ≡ sight_of other key) keys → AllByRecursion (λ key. all_of cat key ≡ all_of other key) keys
+keys_agree cat other [] all = tt
+keys_agree cat other (key ∷ keys) all = (ap (λ (seen : Sight). Some seen) all.0, keys_agree cat other keys all.1)
+
+pub catalogs_agree : (cat other : Catalog) (check : Walk ErrorValue Choice) → AllByRecursion (λ key. sight_of cat key ≡ sight_of other key) (asked (all_of cat) check) → run (all_of cat) check ≡ run (all_of other) check
+catalogs_agree cat other check all = run_agrees (all_of cat) (all_of other) check (keys_agree cat other (asked (all_of cat) check) all)
+
+-- a part of a catalog extends to the whole
+pub known_settles : (cat : Catalog) (look : Look) (check : Walk ErrorValue Choice) → IsOf (sight_of cat) look → IsSettled (run look check) → run (all_of cat) check ≡ run look check
+known_settles cat look check of done_with = run_more look (all_of cat) check (record { keeps = λ key seen known. ap (λ (s : Sight). Some s) (of.stands key seen known) }) done_with
+
+body_has_check : (session : SessionState) (if_not_exists : Bool) (table : ObjRef) (body : TableBody) → is_body_decided body ≡ true → is_some (body_outcome session if_not_exists table body) ≡ true
+body_has_check session if_not_exists table (bodies.Like source) e = cc
+body_has_check session if_not_exists table (bodies.Elements elements) e = refl
+
+table_has_check : (session : SessionState) (statement : TableStatement) → is_table_decided statement ≡ true → is_some (table_outcome session statement) ≡ true
+table_has_check session (tables.Create words) e = body_has_check session words.if_not_exists words.table words.body e
+table_has_check session (tables.Drop if_exists dropped) e = refl
+table_has_check session (tables.Rename pairs) e = refl
+table_has_check session _ e = cc
+
+show_has_check : (session : SessionState) (statement : ShowStatement) → is_show_decided statement ≡ true → is_some (show_outcome session statement) ≡ true
+show_has_check session shows.Databases e = refl
+show_has_check session (shows.Tables schema) e = refl
+show_has_check session (shows.Creation shown) e = refl
+show_has_check session _ e = cc
+
+pub decided_has_check : (session : SessionState) (statement : Statement) → is_decided statement ≡ true → is_some (outcome session statement) ≡ true
+decided_has_check session (is.Schema statement) e = refl
+decided_has_check session (is.Table statement) e = table_has_check session statement e
+decided_has_check session (is.View statement) e = cc
+decided_has_check session (is.Show statement) e = show_has_check session statement e
+decided_has_check session (is.Session statement) e = refl
+decided_has_check session (is.Bad error) e = refl

@@ -1,0 +1,41 @@
+-- Each of the parts, judged by computing.
+use Rattle.std.specs.Prelude.{refl}
+use Rattle.dd_definitions.specs.Columns.{are_columns_named, is_short_type, is_typed, are_columns_formed, is_column, is_nullable, are_key_columns}
+use Rattle.dd_definitions.specs.Defaults.{is_positive, is_integer_text, is_short_text, fits}
+use Rattle.dd_definitions.specs.ForeignKeys.{has_index_on, is_foreign_key_formed, is_before_next, are_foreign_keys_formed}
+use Rattle.dd_definitions.specs.Indexes.{is_primary_first, has_nullable, is_well_named, is_never_null, is_index_formed, are_few_indexes, rank, are_indexes_formed, leads_index, is_auto_formed, are_few_autos, are_autos_formed}
+use Rattle.dd_definitions.specs.WellFormed.{is_well_formed}
+use Rattle.rules_examples.specs.Parts.{AllFit, NoneFits}
+use Rattle.rules_examples.specs.Tables.{good_columns, bad_columns, bad_defaults, good_indexes, bad_indexes, bad_autos, good_keys, bad_keys}
+
+pub good_columns_judged : AllFit good_columns
+unfolding are_columns_named is_short_type is_typed are_columns_formed is_column is_nullable are_key_columns is_positive is_integer_text is_short_text fits has_index_on is_foreign_key_formed is_before_next are_foreign_keys_formed is_primary_first has_nullable is_well_named is_never_null is_index_formed are_few_indexes rank are_indexes_formed leads_index is_auto_formed are_few_autos are_autos_formed is_well_formed
+good_columns_judged = refl
+
+pub bad_columns_judged : NoneFits bad_columns
+unfolding are_columns_named is_short_type is_typed are_columns_formed is_column is_nullable are_key_columns is_positive is_integer_text is_short_text fits has_index_on is_foreign_key_formed is_before_next are_foreign_keys_formed is_primary_first has_nullable is_well_named is_never_null is_index_formed are_few_indexes rank are_indexes_formed leads_index is_auto_formed are_few_autos are_autos_formed is_well_formed
+bad_columns_judged = refl
+
+pub bad_defaults_judged : NoneFits bad_defaults
+unfolding are_columns_named is_short_type is_typed are_columns_formed is_column is_nullable are_key_columns is_positive is_integer_text is_short_text fits has_index_on is_foreign_key_formed is_before_next are_foreign_keys_formed is_primary_first has_nullable is_well_named is_never_null is_index_formed are_few_indexes rank are_indexes_formed leads_index is_auto_formed are_few_autos are_autos_formed is_well_formed
+bad_defaults_judged = refl
+
+pub good_indexes_judged : AllFit good_indexes
+unfolding are_columns_named is_short_type is_typed are_columns_formed is_column is_nullable are_key_columns is_positive is_integer_text is_short_text fits has_index_on is_foreign_key_formed is_before_next are_foreign_keys_formed is_primary_first has_nullable is_well_named is_never_null is_index_formed are_few_indexes rank are_indexes_formed leads_index is_auto_formed are_few_autos are_autos_formed is_well_formed
+good_indexes_judged = refl
+
+pub bad_indexes_judged : NoneFits bad_indexes
+unfolding are_columns_named is_short_type is_typed are_columns_formed is_column is_nullable are_key_columns is_positive is_integer_text is_short_text fits has_index_on is_foreign_key_formed is_before_next are_foreign_keys_formed is_primary_first has_nullable is_well_named is_never_null is_index_formed are_few_indexes rank are_indexes_formed leads_index is_auto_formed are_few_autos are_autos_formed is_well_formed
+bad_indexes_judged = refl
+
+pub bad_autos_judged : NoneFits bad_autos
+unfolding are_columns_named is_short_type is_typed are_columns_formed is_column is_nullable are_key_columns is_positive is_integer_text is_short_text fits has_index_on is_foreign_key_formed is_before_next are_foreign_keys_formed is_primary_first has_nullable is_well_named is_never_null is_index_formed are_few_indexes rank are_indexes_formed leads_index is_auto_formed are_few_autos are_autos_formed is_well_formed
+bad_autos_judged = refl
+
+pub good_keys_judged : AllFit good_keys
+unfolding are_columns_named is_short_type is_typed are_columns_formed is_column is_nullable are_key_columns is_positive is_integer_text is_short_text fits has_index_on is_foreign_key_formed is_before_next are_foreign_keys_formed is_primary_first has_nullable is_well_named is_never_null is_index_formed are_few_indexes rank are_indexes_formed leads_index is_auto_formed are_few_autos are_autos_formed is_well_formed
+good_keys_judged = refl
+
+pub bad_keys_judged : NoneFits bad_keys
+unfolding are_columns_named is_short_type is_typed are_columns_formed is_column is_nullable are_key_columns is_positive is_integer_text is_short_text fits has_index_on is_foreign_key_formed is_before_next are_foreign_keys_formed is_primary_first has_nullable is_well_named is_never_null is_index_formed are_few_indexes rank are_indexes_formed leads_index is_auto_formed are_few_autos are_autos_formed is_well_formed
+bad_keys_judged = refl

@@ -1,0 +1,3 @@
+pub mod JudgedTables
+pub mod JudgedWords
+pub mod JudgedCreates

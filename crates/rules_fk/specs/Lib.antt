@@ -1,6 +1,0 @@
-pub mod Answers
-pub mod Columns
-pub mod Defaults
-pub mod ForeignKeys
-pub mod Keys
-pub mod Refusals

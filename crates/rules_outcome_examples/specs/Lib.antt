@@ -1,0 +1,4 @@
+pub mod Catalogs
+pub mod Drops
+pub mod Renamings
+pub mod Shows

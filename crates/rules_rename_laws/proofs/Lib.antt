@@ -1,0 +1,3 @@
+pub mod ForeignKeys
+pub mod Overlays
+pub mod Leaves

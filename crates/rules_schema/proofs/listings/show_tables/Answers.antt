@@ -1,4 +1,0 @@
-use Rattle.rules_schema.proofs.listings.show_tables.Goals as goal
-
-pub returns-clause-before : goal.returns-clause-before
-returns-clause-before g c = c.decided.ensures.before (g.L.Lookup.known c.args.look.now) c.tables_shown.ensures.before

@@ -1,4 +1,0 @@
-use Rattle.rules_schema.proofs.schemas.drop_database.Goals as goal
-
-pub returns-clause-before : goal.returns-clause-before
-returns-clause-before g c = c.decided.ensures.before (g.L.Lookup.known c.args.look.now) c.schema_dropped.ensures.before

@@ -1,0 +1,11 @@
+pub mod Example
+pub mod Values
+pub mod Statements
+pub mod Databases
+pub mod Tables
+pub mod Columns
+pub mod Keys
+pub mod Actions
+pub mod Views
+pub mod Refused
+pub mod Long

@@ -1,0 +1,4 @@
+mod Checks
+pub mod Yields
+pub mod FineTokens
+mod SaidNames

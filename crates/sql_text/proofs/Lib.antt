@@ -1,0 +1,9 @@
+pub mod Added
+pub mod Spells
+pub mod SpelledParts
+pub mod SpelledColumns
+pub mod SpelledKeys
+pub mod SpelledActions
+pub mod SpelledViews
+pub mod SpelledStatements
+pub mod ReadBack

@@ -1,0 +1,3 @@
+pub mod YieldedParts
+pub mod YieldedActions
+pub mod ReadSpellable

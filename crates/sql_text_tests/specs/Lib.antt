@@ -1,0 +1,4 @@
+pub mod Cases
+pub mod PieceTexts
+pub mod CanonicalTexts
+pub mod ShownTexts

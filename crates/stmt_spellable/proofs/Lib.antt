@@ -1,4 +1,0 @@
-pub mod Yields
-pub mod YieldedParts
-pub mod YieldedActions
-pub mod FineTokens

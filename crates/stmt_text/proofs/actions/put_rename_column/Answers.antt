@@ -1,5 +1,0 @@
-use Rattle.text_pieces.proofs.Joins.{adds, join_2}
-use Rattle.stmt_text.proofs.actions.put_rename_column.Goals as goal
-
-pub returns : goal.returns
-returns c = join_2 (adds c.in_ok-push_str.ensures.ok) c.in_ok-put_name_to_name.ensures

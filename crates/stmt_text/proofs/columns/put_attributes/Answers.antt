@@ -1,5 +1,0 @@
-use Rattle.text_pieces.proofs.Joins.{join}
-use Rattle.stmt_text.proofs.columns.put_attributes.Goals as goal
-
-pub returns : goal.returns
-returns c = join c.in_ok-put_nullable.ensures (join c.in_ok-put_default.ensures (join c.in_ok-put_auto.ensures (join c.in_ok-put_unique.ensures c.in_ok-put_primary.ensures)))

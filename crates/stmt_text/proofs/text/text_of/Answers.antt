@@ -1,6 +1,0 @@
-use Rattle.std.proofs.Common.{List, ℕ, sym, subst}
-use Rattle.ddl_words.specs.Reads.{Reads}
-use Rattle.stmt_text.proofs.text.text_of.Goals as goal
-
-pub returns-clause-reads : goal.returns-clause-reads
-returns-clause-reads c = subst (λ (t : List ℕ). Reads t c.args.statement.now) (sym c.in_ok-text.ensures) (c.canonical_laws.ensures c.args.statement.now c.requires.spellable)

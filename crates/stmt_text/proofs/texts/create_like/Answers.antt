@@ -1,5 +1,0 @@
-use Rattle.text_pieces.proofs.Joins.{begun, adds, join, join_1}
-use Rattle.stmt_text.proofs.texts.create_like.Goals as goal
-
-pub returns : goal.returns
-returns c = begun c.in_ok-out.ensures (join c.in_ok-put_if_not_exists.ensures (join c.in_ok-put_object.ensures (join_1 (adds c.in_ok-push_str.ensures.ok) c.in_ok-put_object-2.ensures)))

@@ -1,5 +1,0 @@
-use Rattle.text_pieces.proofs.Joins.{begun, join}
-use Rattle.stmt_text.proofs.texts.drop_table.Goals as goal
-
-pub returns : goal.returns
-returns c = begun c.in_ok-out.ensures (join c.in_ok-put_if_exists.ensures c.in_ok-put_divided.ensures)

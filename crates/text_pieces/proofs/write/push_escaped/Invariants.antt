@@ -1,7 +1,0 @@
-use Rattle.std.proofs.Common.{◌≡◌, ◌++◌}
-use Rattle.text_pieces.specs.Pieces.{escaped}
-use lib.Utf8.{encodes}
-use Rattle.text_pieces.proofs.write.push_escaped.Given as goal
-
-abbrev pub invariant-characters : goal.invariant-characters
-invariant-characters l = l.out ≡ l.fn.out ++ escaped (encodes l.yielded)
