@@ -4,19 +4,22 @@
 usage: bench/appends.py        (run by hand, with `rt` and `strace` in the path and no other work on the machine)
 
 Each batch puts one row of a key of eight bytes and a value of forty; sqlite inserts the same, each row in a transaction of its own. Both
-work in one temporary folder. It prints both for 1,000 rows, and then how many syncs the system saw for 100 rows of each. The program is made in
-a folder of its own, which is removed at the end, and is run without its proof.
+work in one temporary folder. It prints both for 1,000 rows, and then how many syncs the system saw for 100 rows of each: of the file, and of
+its folder. The file of the journal is synced as it is made, as its closed gate is written, and twice a batch; where the
+system saw fewer, the program ends with an error. The program is made in a folder of its own, which is removed at the end, and is run without
+its proof.
 """
-import pathlib, re, shutil, subprocess, tempfile
+import pathlib, re, shutil, subprocess, sys, tempfile
 
 TOP = pathlib.Path(__file__).resolve().parent.parent
-CRATES = ["disk_trait", "host_disk", "row_batch", "row_journal"]
+CRATES = ["disk_trait", "disk_host", "row_batch", "row_journal"]
+TRACED = 100
 
 PROGRAM = r"""//! Appends a second, by the journal and by sqlite.
 #![tactic(auto)]
 
 use disk_trait::Disk;
-use host_disk::HostDisk;
+use disk_host::HostDisk;
 use row_batch::Batch;
 use row_journal::{Appended, open_journal};
 use sqlite::{Connection, params};
@@ -78,8 +81,8 @@ def make(top, rows):
         shutil.copytree(TOP / "crates" / crate, top / "crates" / crate, ignore=shutil.ignore_patterns("out"), dirs_exist_ok=True)
     shutil.copy(TOP / "HANDLES", top)
     (top / "crates.txt").write_text(
-        "disk_trait:\nhost_disk: disk_trait\nrow_batch:\nrow_journal: disk_trait row_batch\n"
-        "appends: disk_trait host_disk row_batch row_journal sqlite\n"
+        "disk_trait:\ndisk_host: disk_trait\nrow_batch:\nrow_journal: disk_trait row_batch\n"
+        "appends: disk_trait disk_host row_batch row_journal sqlite\n"
     )
     source = top / "crates" / "appends" / "src"
     source.mkdir(parents=True, exist_ok=True)
@@ -94,10 +97,13 @@ def main():
         top = pathlib.Path(folder)
         trace = top / "trace"
         watch = ["strace", "-f", "--seccomp-bpf", "-y", "-o", trace, "-e", "trace=fsync,fdatasync"]
-        subprocess.run(watch + ["rt", "try"], cwd=make(top, 100), check=True)
+        subprocess.run(watch + ["rt", "try"], cwd=make(top, TRACED), check=True)
         syncs = [line for line in trace.read_text().splitlines() if re.search(r"\bf(data)?sync\(", line)]
-        for name in ["journal/dict", "rows.db"]:
-            print(f"syncs of {name} and files beside it:", sum(name in line for line in syncs))
+        of_file = sum("journal/dict>" in line for line in syncs)
+        print("syncs of the journal:", of_file, "of its file,", sum("/journal>" in line for line in syncs), "of its folder")
+        print("syncs of sqlite:", sum("rows.db" in line for line in syncs))
+        if of_file < 2 + 2 * TRACED:
+            sys.exit("a write isn't synced")
 
 
 if __name__ == "__main__":
