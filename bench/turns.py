@@ -1,96 +1,64 @@
 #!/usr/bin/env python3
-"""Counts the turns a second that threads take at one value: in the hall, and under a lock of the standard library.
+"""Times threads that take turns at one value: in the hall, and under a lock of the standard library.
 
-usage: bench/turns.py        (run by hand, with `rt` in the path and no other work on the machine)
+usage: bench/turns.py [--rounds N] [--turns N]     (run by hand, with `rt` in the path and no other work on the machine)
 
-Each turn adds one number to a list. For 1, 2, 4 and 8 threads it prints the turns a second of both. The program is made in a
-folder of its own, which is removed at the end, and is run without its proof.
+The program is the crate hall_tests, which is proved and built first. A turn adds one number to a list. The value is a
+list and two numbers, 48 bytes, as it stands; the same in a box; or one of 4 KB in a box. For 1, 2, 4, 8 and 32 threads
+a line has the medians of all rounds, in millions of turns a second, and how many times as long the hall takes as the
+lock at the first value. The rounds take the lines one after another, so that what slows the machine slows all alike.
+The status is 1 where the hall takes more than 2 times as long as the lock at 1 or at 8 threads, or where, at 1 thread,
+a value of 4 KB in a box takes more than 1.1 times as long as one of 48 bytes in a box, or as one as it stands.
 """
-import pathlib, shutil, subprocess, tempfile
+import argparse
+import pathlib
+import statistics
+import subprocess
+import sys
 
-TOP = pathlib.Path(__file__).resolve().parent.parent
-CRATES = ["turn_hall", "hall_count"]
+CRATE = pathlib.Path(__file__).resolve().parent.parent / "crates" / "hall_tests"
+PROGRAM = CRATE / "out" / "hall_tests"
+THREADS = (1, 2, 4, 8, 32)
+SIZES = ("small", "boxed", "wide")
+KEEPERS = ("hall", "lock")
 
-PROGRAM = r"""//! Turns a second, in the hall and under a lock.
-#![tactic(auto)]
 
-use hall_count::{Tally, mark_often};
-use std::alloc::Global;
-use std::io;
-use std::sync::{Mutex, Wait};
-use std::thread;
-use std::thread::Threads;
-use std::time::{Clock, Instant};
-use turn_hall::{Hall, Pass};
+def build():
+    """Proves and builds the program, and runs it once."""
+    subprocess.run(["rt", "run", "--", "crowd"], cwd=CRATE, stdout=subprocess.DEVNULL, check=True)
 
-const TURNS: u64 = 200_000;
 
-#[derive(Drop)]
-struct Work {
-    number: u64,
-    pass: Pass<Tally>,
-}
+def rate(keeper, size, threads, turns):
+    """Turns a microsecond, of a run of its own."""
+    each = turns // threads
+    words = [PROGRAM, keeper, size, str(threads), str(each)]
+    micros = int(subprocess.run(words, stdout=subprocess.PIPE, check=True).stdout)
+    return each * threads / max(micros, 1)
 
-fn hall_micros<R: Threads + Wait + Clock + Sync>(rt: &R, alloc: Global, threads: u64) -> io::Result<u64> {
-    let Ok((hall, mut first)) = Hall::new(alloc, Tally::new(alloc, threads + 1), 0) else {
-        return Ok(0);
-    };
-    let mut works = Vec::new(alloc);
-    for number in 0..threads {
-        let pass = hall.split(&mut first, number);
-        works.push(Work { number, pass })?;
-    }
-    let begun = Instant::now(rt)?;
-    thread::for_each_mut(rt, works.as_mut_slice(), threads as usize, &|_, work: &mut Work| {
-        let _done = mark_often(rt, &hall, &mut work.pass, work.number, TURNS / threads);
-    });
-    let micros = begun.elapsed(rt)?.as_micros() as u64;
-    for work in works {
-        let Work { number: _, pass } = work;
-        hall.join(&mut first, pass);
-    }
-    let _tally = hall.close(first);
-    Ok(micros)
-}
 
-fn lock_micros<R: Threads + Wait + Clock + Sync>(rt: &R, alloc: Global, threads: u64) -> io::Result<u64> {
-    let tally = Mutex::new(Tally::new(alloc, threads));
-    let mut numbers = Vec::new(alloc);
-    for number in 0..threads {
-        numbers.push(number)?;
-    }
-    let begun = Instant::now(rt)?;
-    thread::for_each_mut(rt, numbers.as_mut_slice(), threads as usize, &|_, number: &mut u64| {
-        for _ in 0..TURNS / threads {
-            let _done = tally.lock(rt).add(*number);
-        }
-    });
-    Ok(begun.elapsed(rt)?.as_micros() as u64)
-}
-
-fn main(rt: HostRuntime) -> io::Result<()> {
-    println!(rt; "threads   hall   lock   (turns a second)")?;
-    for threads in [1, 2, 4, 8] {
-        let hall = TURNS * 1_000_000 / hall_micros(&rt, rt.alloc(), threads)?.max(1);
-        let lock = TURNS * 1_000_000 / lock_micros(&rt, rt.alloc(), threads)?.max(1);
-        println!(rt; "{threads} {hall} {lock}")?;
-    }
-    Ok(())
-}
-"""
+def medians(rounds, turns):
+    rates = {(k, s, t): [] for t in THREADS for s in SIZES for k in KEEPERS}
+    for _ in range(rounds):
+        for (keeper, size, threads), seen in rates.items():
+            seen.append(rate(keeper, size, threads, turns))
+    return {key: statistics.median(seen) for key, seen in rates.items()}
 
 
 def main():
-    with tempfile.TemporaryDirectory() as folder:
-        top = pathlib.Path(folder)
-        for crate in CRATES:
-            shutil.copytree(TOP / "crates" / crate, top / "crates" / crate, ignore=shutil.ignore_patterns("out"))
-        shutil.copy(TOP / "HANDLES", top)
-        (top / "crates.txt").write_text("turn_hall: atomic_table\nhall_count: turn_hall\nturns: turn_hall hall_count\n")
-        source = top / "crates" / "turns" / "src"
-        source.mkdir(parents=True)
-        (source / "main.rt").write_text(PROGRAM)
-        subprocess.run(["rt", "try"], cwd=source.parent, check=True)
+    parser = argparse.ArgumentParser(description=__doc__, formatter_class=argparse.RawDescriptionHelpFormatter)
+    parser.add_argument("--rounds", type=int, default=9)
+    parser.add_argument("--turns", type=int, default=4_000_000, help="turns of all threads together")
+    words = parser.parse_args()
+    build()
+    found = medians(words.rounds, words.turns)
+    print("threads  " + "  ".join(f"{keeper} {size}".rjust(10) for size in SIZES for keeper in KEEPERS) + "  lock/hall")
+    for threads in THREADS:
+        rates = "  ".join(f"{found[keeper, size, threads]:10.2f}" for size in SIZES for keeper in KEEPERS)
+        print(f"{threads:7}  {rates}  {found['lock', 'small', threads] / found['hall', 'small', threads]:9.2f}")
+    slow = max(found["lock", "small", threads] / found["hall", "small", threads] for threads in (1, 8))
+    wide = max(found["hall", size, 1] / found["hall", "wide", 1] for size in ("small", "boxed"))
+    print(f"the hall takes {slow:.2f} times as long as the lock, and 4 KB in a box {wide:.2f} times as long as 48 bytes")
+    sys.exit(slow > 2 or wide > 1.1)
 
 
 if __name__ == "__main__":

@@ -1,12 +1,15 @@
 -- Where a put lies in the frame of a batch.
-use Rattle.std.proofs.Common.{◌≡◌, ℕ, zero, suc, ◌+◌, ◌<◌, ◌≤◌, List, [], ◌∷◌, ◌++◌, length, get_or, take, drop, Option, Some, None, refl, sym, ap, ◌∙◌, append_assoc, arith, length-append, length-set}
+use Rattle.std.proofs.Common.{◌≡◌, ℕ, zero, suc, ◌+◌, ◌-◌, ◌^◌, ◌<◌, ◌≤◌, List, [], ◌∷◌, ◌++◌, length, get_or, take, drop, Option, Some, None, refl, sym, ap, subst, ◌∙◌, append_assoc, arith, length-append, length-set}
 use Rattle.std.specs.Prelude.{slice_get, slice_set}
-use Rattle.std.specs.List.{flat_map}
+use Rattle.std.specs.List.{flat_map, AllByRecursion}
 use Rattle.std.specs.Int.{w16, w32, w64, to_be_bytes}
+use Rattle.std.specs.List.Sorted.{IsPermutation}
 use Rattle.std.proofs.lemmas.List.{take_at, drop_at}
+use Rattle.std.proofs.lemmas.List.Concat.{length-flat_map}
+use Rattle.std.proofs.lemmas.List.Sorted.{sum_by-IsPermutation, length_permutation}
 use Rattle.row_batch.specs.declared.operation.Operation.{Operation}
 use Rattle.row_batch.specs.declared.operation.Operation.TheVariants.{Delete, DeletePrefix, Put}
-use Rattle.row_batch.specs.Batches.{operation_bytes, batch_bytes, frame, PutsAsLong}
+use Rattle.row_batch.specs.Batches.{operation_bytes, batch_bytes, frame, frame_head, Fits, PutsAsLong}
 
 -- ---- bytes written over others
 
@@ -176,3 +179,53 @@ pub place_within : (operations : List Operation) (place : ℕ) (key value : List
 place_within [] place key value h = absurd h
 place_within (x ∷ xs) zero key value h = omega arith
 place_within (x ∷ xs) (suc place) key value h = let rest = place_within xs place key value h in omega arith
+
+-- ---- how a frame is written
+
+pub length-frame : (operations : List Operation) → length (frame operations) ≡ 13 + length (flat_map operation_bytes operations)
+unfolding frame batch_bytes
+length-frame operations = omega (arith, length-append (to_be_bytes w32 (length operations)) (flat_map operation_bytes operations), length-append (batch_bytes operations) (0 ∷ []), length-append (to_be_bytes w64 (length (batch_bytes operations))) (batch_bytes operations ++ 0 ∷ []))
+
+pub length-batch_bytes : (operations : List Operation) → length (batch_bytes operations) ≡ 4 + length (flat_map operation_bytes operations)
+unfolding batch_bytes
+length-batch_bytes operations = omega (arith, length-append (to_be_bytes w32 (length operations)) (flat_map operation_bytes operations))
+
+pub length-frame_head : (operations : List Operation) → length (frame_head operations) ≡ 12
+unfolding frame_head
+length-frame_head operations = omega (arith, length-append (to_be_bytes w64 (length (batch_bytes operations))) (to_be_bytes w32 (length operations)))
+
+-- the head, the operations and a closed gate are the frame
+pub frame_is : (operations : List Operation) → (frame_head operations ++ flat_map operation_bytes operations) ++ 0 ∷ [] ≡ frame operations
+unfolding frame frame_head batch_bytes
+frame_is operations = simp append_assoc
+
+pub head_is : (operations : List Operation) (size : ℕ) (first second : List ℕ) → size ≡ length (frame operations) → first ≡ to_be_bytes w64 (size - 9) → second ≡ to_be_bytes w32 (length operations) → first ++ second ≡ frame_head operations
+unfolding frame_head
+head_is operations size first second is a b =
+    let k : size - 9 ≡ length (batch_bytes operations) = omega (arith, length-frame operations, length-batch_bytes operations) in
+    rw (a, b, k) refl
+
+pub length-operation : (x : Operation) → Fits x → length (operation_bytes x) < 2 ^ 64
+unfolding operation_bytes
+length-operation (Put key value) fits = omega (arith, fits.0, fits.1, length-append (to_be_bytes w16 (length key)) key, length-append (to_be_bytes w32 (length value)) value, length-append (to_be_bytes w16 (length key) ++ key) (to_be_bytes w32 (length value) ++ value))
+length-operation (Delete key) fits = omega (arith, fits, length-append (to_be_bytes w16 (length key)) key)
+length-operation (DeletePrefix key) fits = omega (arith, fits, length-append (to_be_bytes w16 (length key)) key)
+
+-- operations in another order have a head and a frame as long
+pub same_head : (xs ys : List Operation) → IsPermutation xs ys → frame_head xs ≡ frame_head ys
+unfolding frame_head
+same_head xs ys same =
+    let flat : length (flat_map operation_bytes ys) ≡ length (flat_map operation_bytes xs) = length-flat_map operation_bytes ys ∙ sum_by-IsPermutation (λ x. length (operation_bytes x)) xs ys same ∙ sym (length-flat_map operation_bytes xs) in
+    let size : length (batch_bytes ys) ≡ length (batch_bytes xs) = omega (arith, flat, length-batch_bytes xs, length-batch_bytes ys) in
+    rw (size, length_permutation xs ys same) refl
+
+pub same_size : (xs ys : List Operation) → IsPermutation xs ys → length (frame ys) ≡ length (frame xs)
+same_size xs ys same =
+    let flat : length (flat_map operation_bytes ys) ≡ length (flat_map operation_bytes xs) = length-flat_map operation_bytes ys ∙ sum_by-IsPermutation (λ x. length (operation_bytes x)) xs ys same ∙ sym (length-flat_map operation_bytes xs) in
+    omega (arith, flat, length-frame xs, length-frame ys)
+
+-- each of some operations fits
+pub fits_at : (operations : List Operation) (i : ℕ) (x : Operation) → AllByRecursion Fits operations → i < length operations → x ≡ get_or operations i x → Fits x
+fits_at [] i x fits lt e = absurd (omega arith)
+fits_at (y ∷ ys) zero x fits lt e = subst Fits (sym e) fits.0
+fits_at (y ∷ ys) (suc i) x fits lt e = fits_at ys i x fits.1 (omega arith) e

@@ -1,6 +1,7 @@
 pub mod Fields
 pub mod Readings
 pub mod Loop
-pub mod Inserting
+pub mod Ordered
+pub mod Meanings
 pub mod Keeping
 pub mod Framing

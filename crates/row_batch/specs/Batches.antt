@@ -23,6 +23,10 @@ operation_bytes (DeletePrefix prefix) = 3 ∷ key_bytes prefix
 unfoldable pub batch_bytes : List Operation → List ℕ
 batch_bytes operations = to_be_bytes w32 (length operations) ++ flat_map operation_bytes operations
 
+-- how the frame of operations begins, in whatever order they stand: a length of eight bytes, and the count
+unfoldable pub frame_head : List Operation → List ℕ
+frame_head operations = to_be_bytes w64 (length (batch_bytes operations)) ++ to_be_bytes w32 (length operations)
+
 -- a length of eight bytes, the batch's bytes, and a closed gate
 unfoldable pub frame : List Operation → List ℕ
 frame operations = to_be_bytes w64 (length (batch_bytes operations)) ++ (batch_bytes operations ++ 0 ∷ [])
@@ -32,6 +36,11 @@ abbrev pub Fits : Operation → Type 0
 Fits (Put key value) = (length key < 2 ^ 16) × (length value < 2 ^ 32)
 Fits (Delete key) = length key < 2 ^ 16
 Fits (DeletePrefix prefix) = length prefix < 2 ^ 16
+
+-- the operations have room in a batch's bytes, in whatever order they stand
+pub record HasRoom (operations : List Operation) : Type 0 where
+  pub count : length operations < 2 ^ 32
+  pub each : AllByRecursion Fits operations
 
 pub record IsBatch (operations : List Operation) : Type 0 where
   pub count : length operations < 2 ^ 32

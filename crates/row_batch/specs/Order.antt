@@ -1,5 +1,6 @@
 -- The order of operations in a batch.
-use Rattle.std.specs.Prelude.{ℕ, Bool, true, false, not, ◌&&◌, List, [], ◌∷◌, if◌then◌else◌}
+use Rattle.std.specs.Prelude.{◌≡◌, ℕ, Bool, true, false, not, ◌&&◌, List, [], ◌∷◌}
+use Rattle.std.specs.List.Sorted.{IsPermutation, IsStableBy}
 use Rattle.std.specs.Str.{bytes_eq}
 use Rattle.std.specs.declared.cmp.Ordering.{Ordering}
 use Rattle.std.specs.Ordering.{nat_cmp, ordering_then, is_lt}
@@ -40,15 +41,11 @@ abbrev pub in_order : List Operation → Bool
 in_order [] = true
 in_order (x ∷ xs) = may_precede x xs && in_order xs
 
--- the operation in front of the first that comes after it
-abbrev pub inserted : Operation → List Operation → List Operation
-inserted x [] = x ∷ []
-inserted x (y ∷ ys) = if comes_before x y then x ∷ y ∷ ys else y ∷ inserted x ys
-
--- all the operations of the first list inserted, one after the other
-abbrev pub merged : List Operation → List Operation → List Operation
-merged [] ys = ys
-merged (x ∷ xs) ys = merged xs (inserted x ys)
+-- the operations of a batch in the order of its bytes: the same ones, and those that tie as they came
+pub record IsArranged (came arranged : List Operation) : Type 0 where
+  pub same : IsPermutation came arranged
+  pub order : in_order arranged ≡ true
+  pub ties : IsStableBy comes_before came arranged
 
 abbrev pub is_put_of : List ℕ → Operation → Bool
 is_put_of key (Delete own) = false

@@ -1,6 +1,7 @@
 -- Rows as a map from keys to values, and what operations make of them.
 use Rattle.std.specs.Prelude.{ℕ, Bool, not, nat_eq, List, [], ◌∷◌}
 use Rattle.std.specs.List.{starts_with}
+use Rattle.std.specs.Ordering.{eq_by_cmp}
 use Rattle.std.specs.FinMap as finite_map
 use Rattle.row_batch.specs.declared.operation.Operation.{Operation}
 use Rattle.row_batch.specs.declared.operation.Operation.TheVariants.{Delete, DeletePrefix, Put}
@@ -12,6 +13,10 @@ Rows = finite_map.FinMap key_cmp (List ℕ)
 
 abbrev pub no_rows : Rows
 no_rows = finite_map.empty
+
+-- two keys are one
+abbrev pub is_key : List ℕ → List ℕ → Bool
+is_key a b = eq_by_cmp key_cmp a b
 
 -- a key begins with a prefix
 abbrev pub is_under : List ℕ → List ℕ → Bool

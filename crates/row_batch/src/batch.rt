@@ -1,16 +1,22 @@
-ghost use Rattle.std.specs.Prelude.{◌≡◌, ◌+◌, ◌<◌, ◌^◌, true, false, List, [], length, position, slice_get, slice_set, IfOk, OnOk, OnErr};
-ghost use Rattle.row_batch.specs.Order.{in_order, inserted, merged, is_put_of};
-ghost use Rattle.row_batch.specs.Batches.{IsBatch, batch_bytes, frame, PutsAsLong};
+ghost use Rattle.std.specs.Prelude.{◌≡◌, ℕ, ◌+◌, ◌<◌, ◌^◌, true, false, List, [], ◌∷◌, ◌++◌, length, Option, position, slice_get, slice_set, IfOk, OnOk, OnErr};
+ghost use Rattle.row_batch.specs.Order.{in_order, is_put_of, IsArranged};
+ghost use Rattle.row_batch.specs.Batches.{IsBatch, HasRoom, batch_bytes, frame, PutsAsLong};
+ghost use Rattle.row_batch.specs.Rows.{Rows, applied};
+ghost use Rattle.row_batch.specs.Meaning.{made_of};
+ghost use Rattle.std.specs.FinMap as finite_map;
 
+use crate::arranging::arrange;
 use crate::bytes::Bytes;
 use crate::fault::BatchFault;
 use crate::operation::{Operation, copies};
-use crate::{placing, reading, writing};
+use crate::{reading, writing};
 use std::alloc::{AllocError, Global};
 use std::marker::Model;
 
-/// Operations in the order of a batch: deletions, then prefix deletions, then puts, each group in key order. They take
-/// effect in this order. A batch whose frame is made, the bytes that a journal takes, gets no more operations.
+/// Operations on rows. Deletions take effect before puts, and of the puts of a key the last counts (`made_of`). A batch keeps
+/// its operations as they come until its frame is made, the bytes that a journal takes. From then on they are in order,
+/// deletions, then prefix deletions, then puts, each group in key order, and take effect one after the other; it gets no more
+/// operations.
 #[derive(Drop)]
 pub struct Batch {
     operations: Vec<Operation>,
@@ -55,10 +61,11 @@ impl Batch {
         })
     }
 
-    /// The operations in order.
+    /// The operations, which are in order where the frame is made.
     pub fn operations(&self) -> &[Operation]
         ensures value { result.now ≡ self.now.operations }
-        ensures batch { IsBatch self.now.operations }
+        ensures room { HasRoom self.now.operations }
+        ensures batch { self.now.is_framed ≡ true → IsBatch self.now.operations }
     {
         self.operations.as_slice()
     }
@@ -70,66 +77,63 @@ impl Batch {
         self.framed.is_some()
     }
 
-    /// Adds a put behind all operations that don't come after it. For want of memory the batch stays as it is.
+    /// Adds a put. For want of memory the batch stays as it is.
     pub fn put(&mut self, key: &[u8], value: &[u8]) -> Result<(), AllocError>
         requires open { self.old.is_framed ≡ false }
         requires short_key { length key.now < 2 ^ 16 }
         requires short_value { length value.now < 2 ^ 32 }
         requires room { length self.old.operations + 1 < 2 ^ 32 }
-        ensures ok { OnOk result (self.new ≡ record { operations = inserted (Operation.Put key.now value.now) self.old.operations; is_framed = false }) }
+        ensures ok { OnOk result (self.new ≡ record { operations = self.old.operations ++ Operation.Put key.now value.now ∷ []; is_framed = false }) }
         ensures err { OnErr result (self.new ≡ self.old) }
     {
         let alloc = *self.operations.allocator();
-        let operation = Operation::Put {
-            key: Bytes::of(alloc, key)?,
-            value: Bytes::of(alloc, value)?,
-        };
-        placing::insert(&mut self.operations, operation)
+        let operation = Operation::put(alloc, key, value)?;
+        self.operations.push(operation)?;
+        Ok(())
     }
 
-    /// Adds a deletion behind all operations that don't come after it. For want of memory the batch stays as it is.
+    /// Adds a deletion. For want of memory the batch stays as it is.
     pub fn delete(&mut self, key: &[u8]) -> Result<(), AllocError>
         requires open { self.old.is_framed ≡ false }
         requires short_key { length key.now < 2 ^ 16 }
         requires room { length self.old.operations + 1 < 2 ^ 32 }
-        ensures ok { OnOk result (self.new ≡ record { operations = inserted (Operation.Delete key.now) self.old.operations; is_framed = false }) }
+        ensures ok { OnOk result (self.new ≡ record { operations = self.old.operations ++ Operation.Delete key.now ∷ []; is_framed = false }) }
         ensures err { OnErr result (self.new ≡ self.old) }
     {
         let alloc = *self.operations.allocator();
         let operation = Operation::Delete {
             key: Bytes::of(alloc, key)?,
         };
-        placing::insert(&mut self.operations, operation)
+        self.operations.push(operation)?;
+        Ok(())
     }
 
-    /// Adds a deletion of all keys that begin with a prefix, behind all operations that don't come after it. For want of
-    /// memory the batch stays as it is.
+    /// Adds a deletion of all keys that begin with a prefix. For want of memory the batch stays as it is.
     pub fn delete_prefix(&mut self, prefix: &[u8]) -> Result<(), AllocError>
         requires open { self.old.is_framed ≡ false }
         requires short_prefix { length prefix.now < 2 ^ 16 }
         requires room { length self.old.operations + 1 < 2 ^ 32 }
-        ensures ok { OnOk result (self.new ≡ record { operations = inserted (Operation.DeletePrefix prefix.now) self.old.operations; is_framed = false }) }
+        ensures ok { OnOk result (self.new ≡ record { operations = self.old.operations ++ Operation.DeletePrefix prefix.now ∷ []; is_framed = false }) }
         ensures err { OnErr result (self.new ≡ self.old) }
     {
         let alloc = *self.operations.allocator();
         let operation = Operation::DeletePrefix {
             prefix: Bytes::of(alloc, prefix)?,
         };
-        placing::insert(&mut self.operations, operation)
+        self.operations.push(operation)?;
+        Ok(())
     }
 
-    /// Adds the operations of another batch, one after the other. For want of memory the batch stays as it is.
+    /// Adds the operations of another batch. For want of memory the batch stays as it is.
     pub fn add(&mut self, other: &Batch) -> Result<(), AllocError>
         requires open { self.old.is_framed ≡ false }
         requires room { length self.old.operations + length other.now.operations < 2 ^ 32 }
-        ensures ok { OnOk result (self.new ≡ record { operations = merged other.now.operations self.old.operations; is_framed = false }) }
+        ensures ok { OnOk result (self.new ≡ record { operations = self.old.operations ++ other.now.operations; is_framed = false }) }
         ensures err { OnErr result (self.new ≡ self.old) }
     {
         let alloc = *self.operations.allocator();
-        let copies = copies(alloc, other.operations())?;
-        self.operations.reserve(copies.len())?;
-        placing::insert_all(&mut self.operations, copies);
-        Ok(())
+        let mut copies = copies(alloc, other.operations())?;
+        self.operations.append(&mut copies)
     }
 
     /// The least place of a put of a key, which counts from 0; None exactly where there is none.
@@ -141,13 +145,22 @@ impl Batch {
             .position(|operation| operation.is_put_of(key))
     }
 
-    /// Makes the frame: the bytes that a journal takes. For want of memory the batch stays as it is.
+    /// Puts the operations in order and makes the frame: the bytes that a journal takes. For want of memory the batch stays as
+    /// it is.
     pub fn frame(&mut self) -> Result<(), AllocError>
-        ensures ok { OnOk result (self.new ≡ record { operations = self.old.operations; is_framed = true }) }
+        ensures ok { OnOk result ((self.new.is_framed ≡ true) × IsArranged self.old.operations self.new.operations) }
+        // There is one such order alone.
+        ensures only { OnOk result ((operations : List Operation) → IsArranged self.old.operations operations → operations ≡ self.new.operations) }
+        ensures in_order { OnOk result (in_order self.old.operations ≡ true → self.new.operations ≡ self.old.operations) }
+        // In it they make of each key what they mean as they came.
+        ensures same { OnOk result ((key : List ℕ) (old : Option (List ℕ)) → made_of self.new.operations key old ≡ made_of self.old.operations key old) }
+        ensures means { OnOk result ((rows : Rows) (key : List ℕ) → finite_map.get (applied self.new.operations rows) key ≡ made_of self.old.operations key (finite_map.get rows key)) }
         ensures err { OnErr result (self.new ≡ self.old) }
     {
         let alloc = *self.operations.allocator();
-        let frame = writing::frame(alloc, &self.operations)?;
+        let mut frame = writing::begin(alloc, &self.operations)?;
+        arrange(&mut self.operations)?;
+        writing::finish(&mut frame, &self.operations);
         self.framed = Some(frame);
         Ok(())
     }
@@ -163,11 +176,11 @@ impl Batch {
         }
     }
 
-    /// Replaces a put by one with a key and a value that are as long. The order must stay. It takes no memory, and a frame
-    /// that is made has the new put too.
+    /// Replaces a put by one with a key and a value that are as long. Where the frame is made the order must
+    /// stay, and the frame has the new put too. It takes no memory.
     pub fn set(&mut self, place: usize, key: &[u8], value: &[u8])
         requires puts { PutsAsLong key.now value.now (slice_get self.old.operations place) }
-        requires order { in_order (slice_set self.old.operations place (Operation.Put key.now value.now)) ≡ true }
+        requires order { self.old.is_framed ≡ true → in_order (slice_set self.old.operations place (Operation.Put key.now value.now)) ≡ true }
         ensures { self.new ≡ record { operations = slice_set self.old.operations place (Operation.Put key.now value.now); is_framed = self.old.is_framed } }
     {
         if let Some(frame) = &mut self.framed {

@@ -1,9 +1,10 @@
 ghost use Rattle.std.specs.Prelude.{◌≡◌, ◌<◌, ◌^◌, length, IfOk};
-ghost use Rattle.row_batch.specs.Order.{rank, key_of, comes_before, is_put_of};
+ghost use Rattle.row_batch.specs.Order.{rank, key_of, operation_cmp, comes_before, is_put_of};
 ghost use Rattle.row_batch.specs.Batches.{operation_bytes, PutsAsLong};
 
 use crate::bytes::Bytes;
 use std::alloc::{AllocError, Global};
+use std::cmp::Ordering;
 
 /// A change of a map of rows.
 #[derive(Drop)]
@@ -17,6 +18,16 @@ pub enum Operation {
 }
 
 impl Operation {
+    /// A put of copies of a key and a value.
+    pub(crate) fn put(alloc: Global, key: &[u8], value: &[u8]) -> Result<Operation, AllocError>
+        ensures { IfOk result (λ made. made ≡ Operation.Put key.now value.now) }
+    {
+        Ok(Operation::Put {
+            key: Bytes::of(alloc, key)?,
+            value: Bytes::of(alloc, value)?,
+        })
+    }
+
     /// The key, or the prefix of keys.
     pub fn key(&self) -> &[u8]
         ensures { result.now ≡ key_of self.now }
@@ -38,10 +49,9 @@ impl Operation {
             Operation::DeletePrefix { prefix } => Ok(Operation::DeletePrefix {
                 prefix: Bytes::of(alloc, prefix.as_slice())?,
             }),
-            Operation::Put { key, value } => Ok(Operation::Put {
-                key: Bytes::of(alloc, key.as_slice())?,
-                value: Bytes::of(alloc, value.as_slice())?,
-            }),
+            Operation::Put { key, value } => {
+                Operation::put(alloc, key.as_slice(), value.as_slice())
+            }
         }
     }
 
@@ -49,10 +59,16 @@ impl Operation {
     pub fn comes_before(&self, other: &Operation) -> bool
         ensures { result ≡ comes_before self.now other.now }
     {
+        self.compare(other).is_lt()
+    }
+
+    /// The order of a batch: deletions, prefix deletions, puts, each by their keys.
+    pub(crate) fn compare(&self, other: &Operation) -> Ordering
+        ensures { result ≡ operation_cmp self.now other.now }
+    {
         self.rank()
             .cmp(&other.rank())
             .then(self.key().cmp(other.key()))
-            .is_lt()
     }
 
     /// Whether it puts a value under a key.

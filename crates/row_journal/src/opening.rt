@@ -1,9 +1,10 @@
 // A journal is opened by reading its file.
 ghost use Rattle.std.specs.Prelude.{◌≡◌, ◌≤◌, ◌<◌, ◌+◌, ◌^◌, None, List, [], ℕ, length, drop, IfOk, IfErr, MatchResult};
+ghost use Rattle.std.specs.List.{AllByRecursion};
 ghost use Rattle.std.specs.Option.{unwrap_or};
 ghost use Rattle.disk_trait.specs.Story.{WhereTold};
 ghost use Rattle.row_batch.specs.declared.operation.Operation.{Operation};
-ghost use Rattle.row_journal.specs.Contents.{gated};
+ghost use Rattle.row_journal.specs.Contents.{gated, IsSized};
 ghost use Rattle.row_journal.specs.Value.{EndsAt, Stands};
 ghost use Rattle.row_journal.specs.Append.{Has};
 ghost use Rattle.row_journal.specs.Opening.{operations_of, IsMalformed, IsFaultOf, IsOutside, IsNoOtherThan, HasCount};
@@ -86,6 +87,7 @@ fn contents_of<D: Disk>(
     ensures same { D.story disk.new ≡ D.story disk.old }
     ensures ends { IfOk result (λ contents. WhereTold (D.story disk.old) (EndsAt path.now at contents.end (operations_of contents.batches.items))) }
     ensures end { IfOk result (λ contents. contents.end ≡ at + length (gated (operations_of contents.batches.items))) }
+    ensures batches { IfOk result (λ contents. AllByRecursion IsSized (operations_of contents.batches.items)) }
     ensures malformed { IfErr result (λ fault. WhereTold (D.story disk.old) (λ d. IsFaultOf at (d path.now) fault)) }
     ensures onward { D.moment_of disk.old ≤ D.moment_of disk.new }
     ensures calls { D.moment_of disk.new ≤ D.moment_of disk.old + 2 }
@@ -110,6 +112,8 @@ pub fn open_journal<D: Disk>(
     // The file holds the batches that are answered, up to the journal's end.
     ensures stands { IfOk result (λ opened. WhereTold (D.story disk.old) (Stands opened.journal (operations_of opened.batches.items))) }
     ensures journal { IfOk result (λ opened. opened.journal ≡ record { path = path.now; at = at; end = at + length (gated (operations_of opened.batches.items)); fault = None }) }
+    // What is answered are batches, also where the disk doesn't tell the file.
+    ensures batches { IfOk result (λ opened. AllByRecursion IsSized (operations_of opened.batches.items)) }
     ensures malformed { IfErr result (λ fault. WhereTold (D.story disk.old) (λ d. IsFaultOf at (d path.now) fault)) }
     // A file that holds batches opens with just these, and one with a fault is refused at no other place.
     ensures found { WhereTold (D.story disk.old) (λ d. (batches : List (List Operation)) → Has at batches (d path.now)

@@ -1,5 +1,5 @@
 -- What operations make of entries in key order is what they make of the rows.
-use Rattle.std.proofs.Common.{◌≡◌, ℕ, ◌+◌, ◌<◌, length, get_or, take, Equal, Bool, true, false, cond, not, List, [], ◌∷◌, ◌++◌, None, refl, sym, ap, subst, ◌∙◌}
+use Rattle.std.proofs.Common.{◌≡◌, ℕ, Equal, Bool, true, false, cond, not, List, [], ◌∷◌, ◌++◌, None, refl, sym, ap, subst, ◌∙◌}
 use Rattle.std.specs.Prelude.{IsTrue}
 use lib.Dec.{T}
 use Rattle.std.specs.List.{filter}
@@ -7,9 +7,6 @@ use Rattle.std.specs.Str.{bytes_eq}
 use Rattle.std.specs.Ordering.{eq_by_cmp}
 use Rattle.std.specs.Cmp.Lexicographic.{nat_list_cmp_total}
 use Rattle.std.specs.FinMap.{IsAntisymmetric, slice_cmp-IsAntisymmetric, nat_cmp-IsAntisymmetric, insert, remove, retain_keys, same_entries_map, same_map, entries-from_sorted, entries-insert, get-from_sorted, get-retain_keys, get-remove, get-empty}
-use Rattle.std.proofs.lemmas.List.{take_more, map_push}
-use Rattle.row_batch.specs.Batches.{BatchValue}
-use Rattle.row_journal.specs.Opening.{operations_of}
 use Rattle.std.specs.FinMap.Entries.{put, find, is_sorted-put, is_sorted-where_key, find-where_key}
 use Rattle.std.proofs.lemmas.Map.Text.{is_eq-slice_cmp}
 use Rattle.row_batch.specs.declared.operation.Operation.{Operation}
@@ -77,12 +74,6 @@ pub rows-applied : (xs : List Operation) (es : Entries) → IsTrue (in_key_order
 rows-applied [] es h = refl
 rows-applied (x ∷ xs) es h = rows-applied xs (entries_after x es) (stays_in_order x es h) ∙ ap (applied xs) (rows_after_one x es h)
 
--- as a commit does them
-pub committed : (xs ops : List Operation) (es es1 new : Entries) → IsTrue (in_key_order es) → es1 ≡ es → ops ≡ xs → new ≡ entries_applied ops es1 → IsTrue (in_key_order new) × (rows_of new ≡ applied xs (rows_of es))
-committed xs ops es es1 new h same copied is =
-    let all : new ≡ entries_applied xs es = is ∙ ap (entries_applied ops) same ∙ ap (λ (o : List Operation). entries_applied o es) copied in
-    (subst (λ (e : Entries). IsTrue (in_key_order e)) (sym all) (in_order-applied xs es h), ap rows_of all ∙ rows-applied xs es h)
-
 -- a batch more at the end
 pub rows_after-push : (batches : List (List Operation)) (batch : List Operation) (rows : Rows) → rows_after (batches ++ batch ∷ []) rows ≡ applied batch (rows_after batches rows)
 rows_after-push [] batch rows = refl
@@ -93,13 +84,3 @@ pub rows-nothing : (es : Entries) → es ≡ [] → IsTrue (in_key_order es) × 
 rows-nothing es is =
     let none : rows_of [] ≡ no_rows = same_map nat_list_cmp_total alone _ _ (λ q. get-from_sorted key_cmp [] q tt ∙ sym (get-empty key_cmp q)) in
     (subst (λ (e : Entries). IsTrue (in_key_order e)) (sym is) refl, ap rows_of is ∙ none)
-
--- one batch more was done
-pub one_more : (batches : List BatchValue) (i : ℕ) (batch : BatchValue) (ops : List Operation) (es es1 new : Entries) → i < length batches → batch ≡ get_or batches i batch → IsTrue (in_key_order es) → rows_of es ≡ rows_after (operations_of (take i batches)) no_rows
-    → es1 ≡ es → ops ≡ batch.operations → new ≡ entries_applied ops es1
-    → IsTrue (in_key_order new) × (rows_of new ≡ rows_after (operations_of (take (i + 1) batches)) no_rows)
-one_more batches i batch ops es es1 new lt item h made same copied is =
-    let both = committed batch.operations ops es es1 new h same copied is in
-    let more : operations_of (take (i + 1) batches) ≡ operations_of (take i batches) ++ batch.operations ∷ [] =
-    ap operations_of (take_more batches i batch lt ∙ ap (λ (b : BatchValue). take i batches ++ b ∷ []) (sym item)) ∙ map_push (λ b. b.operations) (take i batches) batch in
-    (both.0, both.1 ∙ ap (applied batch.operations) made ∙ sym (ap (λ (bs : List (List Operation)). rows_after bs no_rows) more ∙ rows_after-push (operations_of (take i batches)) batch.operations no_rows))

@@ -1,4 +1,6 @@
 pub mod Places
+pub mod Merged
+pub mod Effects
 pub mod Heads
 pub mod Laws
 pub mod Opened

@@ -1,8 +1,8 @@
 -- What a commit leaves of the rows.
-use Rattle.std.proofs.Common.{◌≡◌, ◌⊎◌, inl, inr, ℕ, ◌+◌, ◌≤◌, List, [], ◌∷◌, ◌++◌, length, take, drop, min, Option, Some, None, refl, sym, ◌∙◌, ap, subst, arith, length-append, length-take, length-drop, take-take}
+use Rattle.std.proofs.Common.{◌≡◌, inl, inr, ℕ, ◌≤◌, List, [], ◌∷◌, ◌++◌, length, Option, Some, None, refl, sym, ◌∙◌, ap, subst, arith, length-append, length-take, length-drop, take-take}
 use Rattle.disk_trait.specs.Change.{Directory}
 use Rattle.disk_trait.specs.Story.{Story, WhereTold, Images, reads}
-use Rattle.disk_trait.specs.Carried.{Off, Carries, Comes, Same, Turns, IsSettled}
+use Rattle.disk_trait.specs.Carried.{Carries, Same, Turns, IsSettled}
 use Rattle.disk_trait.proofs.Acts.{stays, weaken}
 use Rattle.row_batch.specs.declared.operation.Operation.{Operation}
 use Rattle.row_batch.specs.Rows.{Rows, applied, no_rows}
@@ -15,7 +15,7 @@ use Rattle.row_journal.proofs.Steps.{told_gate}
 use Rattle.row_journal.proofs.Exact.{one_list}
 use Rattle.row_store.specs.declared.outcome.Committed.{Committed}
 use Rattle.row_store.specs.declared.outcome.Committed.TheVariants.{Done, Fault, Unsure, Memory}
-use Rattle.row_store.specs.Header.{header, empty_file}
+use Rattle.row_store.specs.Header.{empty_file}
 use Rattle.row_store.specs.Making.{IsMade}
 use Rattle.row_store.specs.Value.{StoreValue, rows_after, IsRowsFile}
 use Rattle.row_store.specs.Opening.{Opens}

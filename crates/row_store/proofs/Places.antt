@@ -1,42 +1,70 @@
 -- Where a key stands among entries in order.
-use Rattle.std.proofs.Common.{◌≡◌, ℕ, suc, ◌+◌, ◌≤◌, Ordering, Less, Equal, Greater, Bool, true, false, cond, not, List, [], ◌∷◌, length, get_or, Option, Some, None, Result, Ok, Err, refl, sym, ap, subst, ◌∙◌, arith}
-use Rattle.std.specs.Prelude.{insert, position, MatchOption, nat_lt, slice_get, slice_set}
-use Rattle.std.specs.List.{prefix_len, position_or_len}
+use Rattle.std.proofs.Common.{◌≡◌, ℕ, zero, suc, ◌+◌, ◌<◌, ◌≤◌, Ordering, Less, Equal, Greater, Bool, true, false, cond, ◌&&◌, List, [], ◌∷◌, length, get_or, Result, Ok, Err, refl, sym, ap, subst, ◌∙◌, arith}
+use Rattle.std.specs.Prelude.{insert, slice_get, slice_set, IsTrue}
+use lib.Dec.{T}
+use Rattle.std.specs.List.Sorted.{IsPartitionedBy, IsPartitionPoint}
+use Rattle.std.specs.List.{prefix_len}
 use Rattle.std.specs.Str.{bytes_eq}
 use Rattle.std.specs.Result.{is_ok, is_err}
 use Rattle.std.specs.Ordering.{is_lt, is_eq, nat_cmp, ordering_reverse}
 use Rattle.std.specs.Cmp.Lexicographic.{slice_cmp, nat_list_cmp_total}
 use Rattle.std.specs.FinMap.{slice_cmp-IsAntisymmetric, nat_cmp-IsAntisymmetric}
-use Rattle.std.specs.FinMap.Entries.{put, by_order}
-use Rattle.std.proofs.lemmas.List.Sums.{prefix_len-le-length}
-use Rattle.std.proofs.lemmas.Bool.{ltb-false}
+use Rattle.std.specs.FinMap.Entries.{put, by_order, below_all, is_sorted}
 use Rattle.std.proofs.lemmas.Map.Text.{is_eq-slice_cmp}
 use Rattle.row_batch.specs.Order.{key_cmp}
-use Rattle.row_store.specs.Entries.{Entries, place_for, has_key}
+use Rattle.row_store.specs.Entries.{Entries, in_key_order, place_for, has_key}
 
-prefix_twice : {X : Type 0} (p : X → Bool) (xs : List X) → prefix_len (λ x. not (not (p x))) xs ≡ prefix_len p xs
-prefix_twice p [] = refl
-prefix_twice p (x ∷ xs) = elim (p x) as (λ b. cond (not (not b)) (1 + prefix_len (λ y. not (not (p y))) xs) 0 ≡ cond b (1 + prefix_len p xs) 0) [ true ↦ ap (λ (n : ℕ). 1 + n) (prefix_twice p xs) | false ↦ refl ]
+point_prefix : {X : Type 0} (p : X → Bool) (xs : List X) (i : ℕ) → i ≤ length xs → ((k : ℕ) (d : X) → 0 ≤ k → k < i → p (get_or xs k d) ≡ true) → ((k : ℕ) (d : X) → i ≤ k → k < length xs → p (get_or xs k d) ≡ false) → i ≡ prefix_len p xs
+point_prefix p [] i le f g = omega arith
+point_prefix p (x ∷ xs) zero le f g = let e : p x ≡ false = g 0 x (omega arith) (omega arith) in rw e refl
+point_prefix p (x ∷ xs) (suc i) le f g =
+    let e : p x ≡ true = f 0 x (omega arith) (omega arith) in
+    let rest : i ≡ prefix_len p xs = point_prefix p xs i (omega arith) (λ k d low high. f (suc k) d (omega arith) (omega arith)) (λ k d low high. g (suc k) d (omega arith) (omega arith)) in
+    let one : suc i ≡ 1 + prefix_len p xs = omega (arith, rest) in
+    rw e one
 
-some_at : (b : Bool) (n i : ℕ) → cond b (Some n) None ≡ Some i → n ≡ i
-some_at true n i e = cc
-some_at false n i e = absurd cc
+front_of : (a b : Bool) → T (a && b) → T a
+front_of true b h = tt
+front_of false b h = absurd h
 
-none_at : (b : Bool) (n : ℕ) → cond b (Some n) None ≡ None → b ≡ false
-none_at true n e = absurd cc
-none_at false n e = refl
+rest_of : (a b : Bool) → T (a && b) → T b
+rest_of true b h = h
+rest_of false b h = absurd h
 
--- the first entry that isn't before a key
-pub first_is_place : (key : List ℕ) (entries : Entries) (found : Option ℕ) → found ≡ position (λ entry. not (is_lt (key_cmp entry.0 key))) entries → MatchOption found (length entries ≡ place_for key entries) (λ i. i ≡ place_for key entries)
-first_is_place key entries (Some i) e =
-    let n = position_or_len (λ entry. not (is_lt (key_cmp entry.0 key))) entries in
-    sym (some_at (nat_lt n (length entries)) n i (sym e)) ∙ prefix_twice (λ entry. is_lt (key_cmp entry.0 key)) entries
-first_is_place key entries None e =
-    let n = position_or_len (λ entry. not (is_lt (key_cmp entry.0 key))) entries in
-    let no_less : length entries ≤ n = ltb-false _ _ (none_at (nat_lt n (length entries)) n (sym e)) in
-    let same : n ≡ place_for key entries = prefix_twice (λ entry. is_lt (key_cmp entry.0 key)) entries in
-    let no_more : place_for key entries ≤ length entries = prefix_len-le-length (λ entry. is_lt (key_cmp entry.0 key)) entries in
-    omega arith
+is_Less : (o : Ordering) → T (is_lt o) → o ≡ Less
+is_Less Less h = refl
+is_Less Equal h = absurd h
+is_Less Greater h = absurd h
+
+less_of : (o : Ordering) → is_lt o ≡ true → o ≡ Less
+less_of Less h = refl
+less_of Equal h = absurd cc
+less_of Greater h = absurd cc
+
+below_at : (x : List ℕ) (es : Entries) (j : ℕ) (d : List ℕ × List ℕ) → T (below_all key_cmp x es) → j < length es → key_cmp x (get_or es j d).0 ≡ Less
+below_at x [] j d h lt = absurd (omega arith)
+below_at x (e ∷ es) zero d h lt = is_Less (key_cmp x e.0) (front_of _ _ h)
+below_at x (e ∷ es) (suc j) d h lt = below_at x es j d (rest_of _ _ h) (omega arith)
+
+-- what stands in front of an entry before a key is before it
+earlier : (key : List ℕ) (es : Entries) (i j : ℕ) (d : List ℕ × List ℕ) → T (is_sorted key_cmp es) → i ≤ j → j < length es → is_lt (key_cmp (get_or es j d).0 key) ≡ true → is_lt (key_cmp (get_or es i d).0 key) ≡ true
+earlier key [] i j d h le lt e = absurd (omega arith)
+earlier key (x ∷ es) zero zero d h le lt e = e
+earlier key (x ∷ es) zero (suc j) d h le lt e =
+    ap is_lt (nat_list_cmp_total.trans x.0 (get_or es j d).0 key (below_at x.0 es j d (front_of _ _ h) (omega arith)) (less_of (key_cmp (get_or es j d).0 key) e))
+earlier key (x ∷ es) (suc i) zero d h le lt e = absurd (omega arith)
+earlier key (x ∷ es) (suc i) (suc j) d h le lt e = earlier key es i j d (rest_of _ _ h) (omega arith) (omega arith) e
+
+pub before_first : (key : List ℕ) (es : Entries) → IsTrue (in_key_order es) → IsPartitionedBy (λ e. is_lt (key_cmp e.0 key)) es
+before_first key es h i j d le lt e = earlier key es i j d (sorted (is_sorted key_cmp es) h) le lt e
+  where
+    sorted : (b : Bool) → IsTrue b → T b
+    sorted true h = tt
+    sorted false h = absurd cc
+
+-- the point up to which keys are before one is its place
+pub point_is_place : (key : List ℕ) (es : Entries) (i : ℕ) → i ≤ length es → IsPartitionPoint (λ (e : List ℕ × List ℕ). is_lt (key_cmp e.0 key) ≡ true) (λ (e : List ℕ × List ℕ). is_lt (key_cmp e.0 key) ≡ false) es i → i ≡ place_for key es
+point_is_place key es i le h = point_prefix (λ (e : List ℕ × List ℕ). is_lt (key_cmp e.0 key)) es i le h.0 h.1
 
 -- ---- a put at its place
 

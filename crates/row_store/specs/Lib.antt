@@ -1,4 +1,6 @@
 pub mod Entries
+pub mod Merging
+pub mod Effects
 pub mod Header
 pub mod Value
 pub mod Outcome

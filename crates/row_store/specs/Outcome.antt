@@ -1,5 +1,5 @@
 -- What a commit has come to.
-use Rattle.std.specs.Prelude.{List}
+use Rattle.std.specs.Prelude.{Bool, true, false, List}
 use Rattle.row_batch.specs.declared.operation.Operation.{Operation}
 use Rattle.row_batch.specs.Rows.{Rows, applied}
 use Rattle.row_journal.specs.declared.outcome.Appended.{Appended}
@@ -27,3 +27,8 @@ rows_committed Done batch rows = applied batch rows
 rows_committed (Fault count) batch rows = rows
 rows_committed (Unsure count) batch rows = rows
 rows_committed Memory batch rows = rows
+
+abbrev pub is_done : Appended → Bool
+is_done appends.Done = true
+is_done (appends.Fault count) = false
+is_done (appends.Unsure count) = false

@@ -1,3 +1,8 @@
+ghost use Rattle.std.specs.Prelude.{◌≡◌};
+ghost use Rattle.row_store.specs.Outcome.{is_done};
+
+use row_journal::Appended;
+
 /// What a commit has come to. After `Fault` and `Unsure` the store keeps the count and takes no more batches: open the file again.
 #[derive(Clone, Copy, Debug, PartialEq, Eq)]
 pub enum Committed {
@@ -31,4 +36,14 @@ pub enum RowFault {
     Fault { count: u64 },
     /// There was no memory.
     Memory,
+}
+
+/// Whether an append to the journal is done.
+pub fn is_done(appended: Appended) -> bool
+    ensures { result ≡ is_done appended }
+{
+    match appended {
+        Appended::Done => true,
+        Appended::Fault { .. } | Appended::Unsure { .. } => false,
+    }
 }

@@ -16,7 +16,9 @@ ghost use Rattle.row_store.specs.Outcome.{Through, WithoutMemory, rows_committed
 ghost use Rattle.row_store.specs.OnDisk.{HasRows, KeepsRows, MayHaveRows, ReadsRows, IsOnDisk};
 ghost use Rattle.row_store.specs.Opening.{Opens, IsOutside, IsVersionOrOutside, IsRefusalOf, HasCount};
 
-use crate::outcome::{Committed, RowFault, RowsRefused};
+use crate::merging::apply_where;
+use crate::outcome::{Committed, RowFault, RowsRefused, is_done};
+use crate::preparing::prepare;
 use crate::scanning::{Scan, Scanned};
 use crate::searching::{Got, Search};
 use crate::{entries, giving, header, making, opening};
@@ -248,14 +250,18 @@ impl RowStore {
         ensures cause { Through result (λ appended. HasCause appended (D.faults_of disk.old) (D.faults_of disk.new)) }
     {
         let alloc = *self.rows.allocator();
-        let Ok(operations) = entries::prepare(alloc, &mut self.rows, batch.operations()) else {
+        let Ok(prepared) = prepare(alloc, self.rows.len(), batch.operations()) else {
             return Committed::Memory;
         };
-        match self.journal.append(disk, batch.framed()) {
-            Appended::Done => {
-                entries::apply_all(&mut self.rows, operations);
-                Committed::Done
-            }
+        let appended = self.journal.append(disk, batch.framed());
+        apply_where(
+            is_done(appended),
+            &mut self.rows,
+            prepared,
+            batch.operations(),
+        );
+        match appended {
+            Appended::Done => Committed::Done,
             Appended::Fault { count } => Committed::Fault { count },
             Appended::Unsure { count } => Committed::Unsure { count },
         }

@@ -53,10 +53,11 @@ fn operations_are_put_in_order(rt: HostRuntime) -> Result<(), Fail> {
     let mut others = Batch::new(rt.alloc());
     others.put(&[0x01, 0x64, 0x00], &[0, 0, 0, 1])?;
     puts.add(&others)?;
-    assert_eq!(rt; puts.place_of(&[0x0a]), Some(1));
+    assert_eq!(rt; puts.place_of(&[0x0a]), Some(0));
     assert_eq!(rt; puts.place_of(&[0x01]), None);
     puts.frame()?;
     assert!(rt; puts.is_framed());
+    assert_eq!(rt; puts.place_of(&[0x0a]), Some(1));
     assert_eq!(rt; puts.framed().get(8..38), Some(PUTS.as_slice()));
     Ok(())
 }

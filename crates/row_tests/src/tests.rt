@@ -226,3 +226,89 @@ fn rows_are_scanned_under_a_prefix(rt: HostRuntime) -> Result<(), Fail> {
     }
     Ok(())
 }
+
+/// Rows whose keys lie close together.
+fn close_rows(alloc: Global) -> Result<Batch, AllocError>
+    ensures { IfOk result (λ batch. batch.is_framed ≡ true) }
+{
+    let mut batch = Batch::new(alloc);
+    batch.put(&[3], &[9])?;
+    batch.put(&[2, 1, 9, 9], &[9])?;
+    batch.put(&[2, 1], &[9])?;
+    batch.put(&[3, 0], &[9])?;
+    batch.put(&[2, 0, 9], &[9])?;
+    batch.frame()?;
+    Ok(batch)
+}
+
+/// Deletions and puts as they come, with a key that is put twice and then deleted.
+fn changes(alloc: Global) -> Result<Batch, AllocError>
+    ensures { IfOk result (λ batch. batch.is_framed ≡ true) }
+{
+    let mut batch = Batch::new(alloc);
+    batch.put(&[7], &[1])?;
+    batch.put(&[2, 1, 5], &[2])?;
+    batch.delete_prefix(&[2, 1])?;
+    batch.put(&[7], &[4])?;
+    batch.delete(&[7])?;
+    batch.delete(&[3])?;
+    batch.frame()?;
+    Ok(batch)
+}
+
+/// A store with two batches in a new file.
+fn two_runs<D: Disk>(
+    alloc: Global,
+    disk: &mut D,
+    first: &Batch,
+    second: &Batch,
+) -> Result<RowStore, Fail>
+    requires { (first.now.is_framed ≡ true) × (second.now.is_framed ≡ true) }
+{
+    let Ok(None) = disk.size(PATH) else {
+        return Err(Fail::new("there is a file"));
+    };
+    let Ok(mut store) = RowStore::make_rows(alloc, disk, PATH) else {
+        return Err(Fail::new("no file is made"));
+    };
+    let Committed::Done = store.commit(disk, first) else {
+        return Err(Fail::new("the first batch isn't done"));
+    };
+    let Committed::Done = store.commit(disk, second) else {
+        return Err(Fail::new("the second batch isn't done"));
+    };
+    Ok(store)
+}
+
+/// The rows of a store: each key, 254, its value and 255.
+fn rows_of<D: Disk>(alloc: Global, disk: &mut D, store: &mut RowStore) -> Result<Vec<u8>, Fail> {
+    let mut scan = Scan::new(alloc, &[])?;
+    let mut bytes = Vec::new(alloc);
+    if let Ok(Scanned::Rows(rows)) = store.scan(disk, &mut scan) {
+        for row in &rows {
+            bytes.extend_from_slice(row.0.as_slice())?;
+            bytes.push(254)?;
+            bytes.extend_from_slice(row.1.as_slice())?;
+            bytes.push(255)?;
+        }
+    }
+    Ok(bytes)
+}
+
+#[test]
+fn deletions_go_before_puts_and_the_last_put_counts(rt: HostRuntime) -> Result<(), Fail> {
+    let left: [u8; 21] = [
+        2, 0, 9, 254, 9, 255, 2, 1, 5, 254, 2, 255, 3, 0, 254, 9, 255, 7, 254, 4, 255,
+    ];
+    let alloc = rt.alloc();
+    let mut disk = MemoryDisk::new(alloc, Vec::new(alloc), false);
+    let mut store = two_runs(alloc, &mut disk, &close_rows(alloc)?, &changes(alloc)?)?;
+    let now = rows_of(alloc, &mut disk, &mut store)?;
+    assert_eq!(rt; now.as_slice(), left.as_slice());
+    let Ok(mut again) = RowStore::open_rows(alloc, &mut disk, PATH) else {
+        return Err(Fail::new("the file isn't opened"));
+    };
+    let read = rows_of(alloc, &mut disk, &mut again)?;
+    assert_eq!(rt; read.as_slice(), left.as_slice());
+    Ok(())
+}

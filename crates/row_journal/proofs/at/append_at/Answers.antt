@@ -1,4 +1,4 @@
-use Rattle.std.proofs.Common.{inl, sym, ◌∙◌, ◌+◌, length, ◌∷◌, [], arith}
+use Rattle.std.proofs.Common.{inl, sym, ◌∙◌, ◌+◌, length, arith}
 use Rattle.disk_trait.specs.Carried.{Wrote}
 use Rattle.disk_trait.proofs.Acts.{then_by}
 use Rattle.row_journal.specs.Append.{Keeps, MayAppend}

@@ -1,9 +1,11 @@
-use Rattle.std.proofs.Common.{Some, None}
-use Rattle.row_store.proofs.Places.{first_is_place}
+use Rattle.std.proofs.Common.{rules}
+use Rattle.std.specs.Ordering.{is_lt}
+use Rattle.std.proofs.lemmas.List.Sorted.{IsPartitionPoint-from_clause}
+use Rattle.row_batch.specs.Order.{key_cmp}
+use Rattle.row_store.proofs.Places.{before_first, point_is_place}
 use Rattle.row_store.proofs.entries.place_for.Goals as goal
 
-pub returns-in-None-clause-place : goal.returns-in-None-clause-place
-returns-in-None-clause-place c = first_is_place c.args.key.now c.args.rows.now None c.in-None.ensures
-
-pub returns-in-Some-clause-place : goal.returns-in-Some-clause-place
-returns-in-Some-clause-place c = first_is_place c.args.key.now c.args.rows.now (Some c.in-Some.place) c.in-Some.ensures
+pub returns-clause-place : goal.returns-clause-place
+returns-clause-place c =
+    point_is_place c.args.key.now c.args.rows.now c.partition_point.result c.partition_point.ensures.bound
+    (IsPartitionPoint-from_clause (λ e. is_lt (key_cmp e.0 c.args.key.now)) c.args.rows.now c.partition_point.result c.partition_point.ensures.partitioned (before_first c.args.key.now c.args.rows.now c.requires) (λ a r f k. search rules))

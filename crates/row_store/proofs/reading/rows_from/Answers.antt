@@ -1,11 +1,6 @@
-use Rattle.std.proofs.Common.{◌∙◌}
-use Rattle.row_store.proofs.Laws.{rows-nothing, one_more}
+use Rattle.row_journal.specs.Opening.{operations_of}
+use Rattle.row_store.proofs.Effects.{rows_made}
 use Rattle.row_store.proofs.reading.rows_from.Goals as goal
 
-pub each-init : goal.each-init
-each-init c = let none = rows-nothing c.new-rows.result.items c.new-rows.ensures.items in record { order = none.0; made = none.1 }
-
-pub each-preserved : goal.each-preserved
-each-preserved c =
-    let more = one_more c.args.batches.now c.each.batch-index c.batch-item.result c.in_ok-operations.operations.items c.each.rows.items c.prepare.new.rows.items c.apply_all.new.rows.items c.each-test.true c.batch-item.is c.each.invariant.order c.each.invariant.made c.prepare.ensures.rows (c.in_ok-operations.ensures.copies ∙ c.operations.ensures.value) c.apply_all.ensures in
-    record { order = more.0; made = more.1 }
+pub returns-in-Ok-clause-rows : goal.returns-in-Ok-clause-rows
+returns-in-Ok-clause-rows c = (rows_made (operations_of c.args.batches.now) c.in-Ok.effect.gone.items c.in-Ok.effect.rows.items c.rows_of.result.items c.requires c.in-Ok.ensures c.rows_of.ensures).1

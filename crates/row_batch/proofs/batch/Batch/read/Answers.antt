@@ -2,6 +2,7 @@ use Rattle.std.proofs.Common.{◌≡◌, arith}
 use Rattle.std.proofs.lemmas.Result.{err_from_is_err_and}
 use Rattle.row_batch.specs.declared.fault.BatchFault.TheVariants.{Malformed}
 use Rattle.row_batch.proofs.Readings.{batch_takes, found, only, refused}
+use Rattle.row_batch.proofs.Keeping.{room_of_batch}
 use Rattle.row_batch.proofs.batch.Batch.read.Goals as goal
 
 pub returns-in_err-operations-clause-malformed : goal.returns-in_err-operations-clause-malformed
@@ -11,8 +12,8 @@ returns-in_err-operations-clause-malformed c =
 
 pub invariant_of-result : goal.invariant_of-result
 invariant_of-result c = record {
-  batch = (batch_takes c.args.bytes.now c.in_ok-operations.operations.items (λ i. omega (arith, c.type_inv.bytes i)) c.in_ok-operations.ensures).0;
-  frame_is = λ x e. absurd cc;
+  room = room_of_batch c.in_ok-operations.operations.items (batch_takes c.args.bytes.now c.in_ok-operations.operations.items (λ i. omega (arith, c.type_inv.bytes i)) c.in_ok-operations.ensures).0;
+  framed_is = λ x e. absurd cc;
 }
 
 pub returns-clause-found : goal.returns-clause-found

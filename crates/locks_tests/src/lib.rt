@@ -1,0 +1,5 @@
+//! Tests of metadata locks.
+#![tactic(auto)]
+
+#[cfg(test)]
+mod locks;

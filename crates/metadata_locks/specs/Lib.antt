@@ -1,0 +1,4 @@
+pub mod Modes
+pub mod Held
+pub mod Conflicts
+pub mod Tried
