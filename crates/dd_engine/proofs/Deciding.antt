@@ -1,7 +1,7 @@
 -- Statements decided over a part of a catalog.
-use Rattle.std.specs.Prelude.{◌≡◌, Option, Some, None, Ok, Err}
+use Rattle.std.specs.Prelude.{◌≡◌, ◌≤◌, ◌+◌, length, Option, Some, None, Ok, Err}
 use Rattle.std.specs.Option.{option_map}
-use Rattle.std.proofs.Common.{sym, ◌∙◌, ap, subst, refl}
+use Rattle.std.proofs.Common.{sym, ◌∙◌, ap, subst, refl, arith}
 use Rattle.dd_names.specs.declared.object_name.ObjectKey.{ObjectKey}
 use Rattle.dd_errors.specs.Errors.{ErrorValue}
 use Rattle.dd_catalog.specs.declared.object.Object.{Object}
@@ -9,8 +9,8 @@ use Rattle.dd_catalog.specs.Catalog.{Catalog, sight_of, all_of}
 use Rattle.dd_catalog.specs.Sights.{Sight, sight}
 use Rattle.dd_catalog.specs.declared.stop.Stop.{Stop}
 use Rattle.dd_catalog.specs.declared.stop.Stop.TheVariants.{Refused, Need, Memory}
-use Rattle.dd_catalog.specs.Walks.{Walk, Found, fine, refused, needs, run}
-use Rattle.dd_catalog.specs.WalkLaws.{Extends, IsSettled, needed_unknown, fewer_left}
+use Rattle.dd_catalog.specs.Walks.{Walk, done, refuse, ask, Found, fine, refused, needs, asked, run}
+use Rattle.dd_catalog.specs.WalkLaws.{Extends, IsSettled, Look, left, untold, needed_unknown, fewer_left}
 use Rattle.rules_outcome.specs.Choices.{Choice}
 use Rattle.rules_outcome.specs.Decided.{chosen}
 use Rattle.rules_outcome.specs.declared.decided.Decided.{Decided}
@@ -18,7 +18,7 @@ use Rattle.rules_decide.specs.Outcome.{DecidesIf}
 use Rattle.rules_decide.proofs.Whole.{settled, known_settles}
 use Rattle.plain_catalog.specs.declared.part.Part.{Part}
 use Rattle.plain_catalog.specs.Known.{known_in}
-use Rattle.dd_engine.specs.Known.{IsKnown, left_in, seen_in, Turned}
+use Rattle.dd_engine.specs.Known.{IsKnown, left_in, looks_of, seen_in, Turned}
 
 some_is : {A : Type 0} {x y : A} → ◌≡◌ {A = Option A} (Some x) (Some y) → x ≡ y
 some_is e = cc
@@ -52,10 +52,29 @@ needed_none part check key is = needed_unknown (seen_in part) check key is
 -- it is known then, and fewer are left
 pub turned_more : (cat : Catalog) (old new : Part) (check : Option (Walk ErrorValue Choice)) (key : ObjectKey) → IsKnown cat old
     → DecidesIf (Err (Need key)) (option_map (run (seen_in old)) check) → seen_in new key ≡ Some (sight_of cat key)
-    → (seen_in old key ≡ None → Extends (seen_in old) (seen_in new)) → (IsKnown cat old → IsKnown cat new) → Turned cat check old new (Ok None)
+    → (seen_in old key ≡ None → Extends (seen_in old) (seen_in new)) → (IsKnown cat old → IsKnown cat new) → Turned cat check old new None
 turned_more cat old new None key known is here more still = absurd is
 turned_more cat old new (Some check) key known is here more still =
     (still known, fewer_left (sight_of cat) (seen_in old) (seen_in new) check key known (more (needed_none old check key is)) here is)
+
+-- ## How often it begins
+
+one_at_most : (known : Option Sight) → untold known ≤ 1
+one_at_most None = omega arith
+one_at_most (Some seen) = omega arith
+
+-- no more keys are left than those at which the check looks
+left_looks : (cat : Catalog) (look : Look) (check : Walk ErrorValue Choice) → left (sight_of cat) look check ≤ length (asked (all_of cat) check)
+left_looks cat look (done x) = omega arith
+left_looks cat look (refuse e) = omega arith
+left_looks cat look (ask key go) =
+    let here : untold (look key) ≤ 1 = one_at_most (look key) in
+    let rest : left (sight_of cat) look (go (sight_of cat key)) ≤ length (asked (all_of cat) (go (sight_of cat key))) = left_looks cat look (go (sight_of cat key)) in
+    omega arith
+
+pub left_at_most : (cat : Catalog) (part : Part) (check : Option (Walk ErrorValue Choice)) → left_in cat check part ≤ looks_of cat check
+left_at_most cat part None = omega arith
+left_at_most cat part (Some check) = left_looks cat (seen_in part) check
 
 -- nothing is seen where nothing is known
 pub none_seen : (part : Part) (key : ObjectKey) → seen_in part key ≡ None → known_in part key ≡ None

@@ -1,9 +1,10 @@
 -- What answers leave of a state.
-use Rattle.std.specs.Prelude.{◌≡◌, ◌≢◌, Bool, true, false, ◌||◌, List, [], ◌∷◌, Option, Some, None, is_some, map}
+use Rattle.std.specs.Prelude.{◌≡◌, ◌≢◌, ◌+◌, ℕ, Bool, true, false, ◌||◌, List, [], ◌∷◌, Option, Some, None, is_some, map}
 use Rattle.std.specs.List.{list_any}
 use Rattle.std.specs.Option.{option_map}
-use Rattle.std.proofs.Common.{sym, ap, subst, refl}
+use Rattle.std.proofs.Common.{sym, ap, subst, refl, arith}
 use Rattle.dd_errors.specs.Errors.{ErrorValue}
+use Rattle.sql_types.specs.declared.listing.Listing.{Listing}
 use Rattle.sql_ast.specs.declared.statement.Statement.{Statement}
 use Rattle.dd_catalog.specs.Catalog.{all_of}
 use Rattle.dd_catalog.specs.Walks.{Walk, Found, fine, refused, needs, run}
@@ -14,9 +15,10 @@ use Rattle.rules_outcome.specs.declared.decided.Edit.{Edit}
 use Rattle.rules_decide.specs.Outcome.{outcome, outcome_over, is_decided}
 use Rattle.rules_decide.proofs.Whole.{decided_has_check}
 use Rattle.dd_engine.specs.declared.history.Answer.{Answer}
-use Rattle.dd_engine.specs.declared.history.Answer.TheVariants.{Memory}
+use Rattle.dd_engine.specs.declared.history.Answer.TheVariants.{Memory, Rows}
 use Rattle.dd_engine.specs.declared.state.State.{State}
 use Rattle.dd_engine.specs.Drawn.{IsOutAt}
+use Rattle.dd_engine.specs.Listed.{answer_size, listing_size}
 use Rattle.dd_engine.specs.Engine.{Leaves, Settles}
 use Rattle.dd_engine.specs.History.{AnswersFound, choice_found, done_of}
 use Rattle.dd_engine.proofs.Deciding.{whole_settled}
@@ -25,11 +27,15 @@ false_true : false ≢ true
 false_true e = cc
 
 -- where nothing is done the state stays
-pub stays : (old : State) → Leaves old Same old []
-stays old = record { catalog = refl; session = refl; next = refl; room = λ e. absurd (false_true e); taken = refl }
+stays : (old : State) (room : ℕ) → Leaves old Same (record old { room = room }) []
+stays old room = record { catalog = refl; session = refl; next = refl; room = λ e. absurd (false_true e); taken = refl }
 
-pub nothing_done : (found : Found ErrorValue Choice) (old : State) (answer : Answer) → AnswersFound found answer → IsOutAt old.next answer → done_of (choice_found found) answer ≡ Same → Settles found old answer old []
-nothing_done found old answer answers out same = record { answers = answers; out = out; leaves = subst (λ (choice : Choice). Leaves old choice old []) (sym same) (stays old) }
+pub nothing_done : (found : Found ErrorValue Choice) (old : State) (answer : Answer) → AnswersFound found answer → IsOutAt old.next answer → answer_size answer ≡ 0 → done_of (choice_found found) answer ≡ Same → Settles found old answer old []
+nothing_done found old answer answers out size same = record { answers = answers; out = out; room = omega (arith, size); leaves = subst (λ (choice : Choice). Leaves old choice old []) (sym same) (stays old old.room) }
+
+-- what is listed takes of the room
+pub listing_done : (listing : Listing) (old : State) (room : ℕ) → listing_size listing + room ≡ old.room → Settles (fine (Lists listing)) old (Rows listing) (record old { room = room }) []
+listing_done listing old room size = record { answers = refl; out = tt; room = size; leaves = stays old room }
 
 -- for want of memory any outcome is answered so
 pub memory_answers : (found : Found ErrorValue Choice) → IsSettled found → AnswersFound found Memory

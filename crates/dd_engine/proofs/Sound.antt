@@ -1,6 +1,7 @@
 -- A sound dictionary stays so by one entry more.
-use Rattle.std.proofs.Common.{◌≡◌, ℕ, ◌==◌, ◌<◌, ◌≤◌, true, List, [], ◌∷◌, ◌++◌, length, refl, ap, sym, ◌∙◌, subst, if◌then◌else◌, arith}
+use Rattle.std.proofs.Common.{◌≡◌, ℕ, ◌==◌, ◌<◌, ◌≤◌, ◌+◌, true, List, [], ◌∷◌, ◌++◌, length, refl, ap, sym, ◌∙◌, subst, if◌then◌else◌, arith}
 use Rattle.std.proofs.lemmas.Bool.{true≢false}
+use Rattle.std.proofs.lemmas.List.Sums.{sum_by_push}
 use Rattle.std.specs.Prelude.{Option, Some, None, is_some}
 use Rattle.std.specs.FinMap as finite_map
 use Rattle.dd_names.specs.declared.object_name.ObjName.{ObjName}
@@ -18,6 +19,7 @@ use Rattle.dd_engine.specs.declared.state.State.{State}
 use Rattle.dd_engine.specs.Catalog.{new_session}
 use Rattle.dd_engine.specs.Drawn.{DrawsNext, behind, next_left, spaces_of}
 use Rattle.dd_engine.specs.Engine.{Answered, AreBelow, IsPlain, IsPlainHistory, IsSound, Stands, Steps}
+use Rattle.dd_engine.specs.Listed.{answer_size, entry_size, listed_size}
 use Rattle.dd_engine.specs.History.{Answers, choice_found, choice_in, done_of, TakesSpaces, space_in, effect, Step, LegalHistory, after_all, sessions_left}
 use Rattle.dd_engine.proofs.Numbers.{space_draws, not_less, one_more, in_range, taken, space_taken, spaces_below}
 use Rattle.dd_engine.proofs.Steps.{StepByStep-push, catalog_left-push, sessions_left-push, next_left-push, ArePlainFrom-push, AllSayNames-push, DrawsFrom-push}
@@ -81,6 +83,12 @@ are_below old new history e said stands n =
     subst (λ (cat : Catalog). AreBelow cat new.next) leaves.catalog
     (spaces_below old.catalog old.session e.statement n.answered.found e.answer (space_in e.spaces) old.next new.next (old_valid history old said stands) n.answered.is stands.spaces more room)
 
+-- what is listed has room
+has_room : (old new : State) (history : List Entry) (e : Entry) → Stands history old → IsNext old history e new → listed_size (history ++ e ∷ []) + new.room ≡ 536870912
+has_room old new history e stands n =
+    let more : listed_size (history ++ e ∷ []) ≡ listed_size history + answer_size e.answer = sum_by_push entry_size history e in
+    omega (arith, more, n.answered.settles.room, stands.room)
+
 now_stands : (old new : State) (history : List Entry) (e : Entry) → IsPlainHistory history → Stands history old → IsNext old history e new → Stands (history ++ e ∷ []) new
 now_stands old new history e said stands n =
     let cat = after_all empty_catalog history in
@@ -98,6 +106,7 @@ now_stands old new history e said stands n =
       least = omega (arith, stands.least, more);
       greatest = subst (λ m. m ≤ 4294967295) (sym leaves.next) (in_range (draws choice) old.next leaves.room stands.greatest);
       spaces = are_below old new history e said stands n;
+      room = has_room old new history e stands n;
     }
 
 -- the entry takes the next number
@@ -117,6 +126,7 @@ sound_push old new history e sound n = record {
     plain = ArePlainFrom-push 0 history e sound.said.plain (subst (λ k. IsPlain k e) (omega arith) n.plain);
     named = AllSayNames-push history e sound.said.named n.named;
     numbers = DrawsFrom-push empty_catalog new_session 1 history e sound.said.numbers (draws_next old new history e sound.stands n);
+    listed = omega (arith, has_room old new history e sound.stands n);
   };
   stands = now_stands old new history e sound.said sound.stands n;
 }
@@ -131,9 +141,9 @@ nothing_there : (name : ObjName) (placed : Placed) → Has empty_catalog name pl
 nothing_there name placed has = true≢false (ap is_some (sym has.is) ∙ ap is_some (finite_map.get-empty object_cmp name))
 
 -- what a dictionary begins with
-pub begins : (state : State) → state.catalog ≡ empty_catalog → state.session ≡ new_session 0 → state.next ≡ 1 → IsSound (Some state) []
-begins state catalog session next = record {
-  said = record { legal = tt; plain = tt; named = tt; numbers = tt };
+pub begins : (state : State) → state.catalog ≡ empty_catalog → state.session ≡ new_session 0 → state.next ≡ 1 → state.room ≡ 536870912 → IsSound (Some state) []
+begins state catalog session next room = record {
+  said = record { legal = tt; plain = tt; named = tt; numbers = tt; listed = omega arith };
   stands = record {
     catalog = sym catalog;
     session = sym session;
@@ -141,5 +151,6 @@ begins state catalog session next = record {
     least = omega (arith, next);
     greatest = omega (arith, next);
     spaces = record { below = λ name space parts has. absurd (nothing_there name (Table space parts) (subst (λ (cat : Catalog). Has cat name (Table space parts)) catalog has)) };
+    room = omega (arith, room);
   };
 }

@@ -14,6 +14,7 @@ use Rattle.dd_engine.specs.declared.history.Entry.{Entry}
 use Rattle.dd_engine.specs.declared.state.State.{State}
 use Rattle.dd_engine.specs.Catalog.{new_session}
 use Rattle.dd_engine.specs.History.{AllSayNames, AnswersFound, choice_found, done_of, space_in, LegalHistory, after_all, sessions_left}
+use Rattle.dd_engine.specs.Listed.{answer_size, listed_size}
 use Rattle.dd_engine.specs.Drawn.{DrawsFrom, IsOutAt, behind, next_left, spaces_of}
 
 -- the entry with this number of the only session, over no disk
@@ -39,18 +40,21 @@ pub record Stands (history : List Entry) (state : State) : Type 0 where
   pub least : 1 ≤ state.next
   pub greatest : state.next ≤ 4294967295
   pub spaces : AreBelow state.catalog state.next
+  pub room : listed_size history + state.room ≡ 536870912
 
 -- a state that was lost for want of memory isn't known
 abbrev pub StandsIfKept : List Entry → Option State → Type 0
 StandsIfKept history None = Unit {0}
 StandsIfKept history (Some state) = Stands history state
 
--- What a dictionary of one session has answered that began without schemas and with the number 1.
+-- What a dictionary of one session has answered that began without schemas and with the number 1. Of listings it keeps some
+-- 512 MiB at most.
 pub record IsPlainHistory (history : List Entry) : Type 0 where
   pub legal : LegalHistory empty_catalog history
   pub plain : ArePlainFrom 0 history
   pub named : AllSayNames history
   pub numbers : DrawsFrom empty_catalog new_session 1 history
+  pub listed : listed_size history ≤ 536870912
 
 -- the history is such a one, and the state that is kept is the one that it leaves
 pub record IsSound (state : Option State) (history : List Entry) : Type 0 where
@@ -73,10 +77,12 @@ pub record Leaves (old : State) (choice : Choice) (new : State) (spaces : List �
   pub room : draws choice ≡ true → old.next < 4294967295
   pub taken : spaces ≡ spaces_of (takes_space choice) old.next
 
--- what is found is answered so, only of the next number it is said that none is left, and what is done leaves this state
+-- what is found is answered so, only of the next number it is said that none is left, what is listed has room, and what is
+-- done leaves this state
 pub record Settles (found : Found ErrorValue Choice) (old : State) (answer : Answer) (new : State) (spaces : List ℕ) : Type 0 where
   pub answers : AnswersFound found answer
   pub out : IsOutAt old.next answer
+  pub room : answer_size answer + new.room ≡ old.room
   pub leaves : Leaves old (done_of (choice_found found) answer) new spaces
 
 -- the statement is found so over the old state, and is answered and leaves the new one as that says

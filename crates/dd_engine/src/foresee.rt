@@ -1,7 +1,7 @@
 // The keys that a statement's text names, and those that what stands there brings with it. No answer rests on which these
 // are: a key that is known and not needed changes nothing, and one that is needed and was not foreseen is told then.
 use dd_catalog::Object;
-use dd_names::{List, Name, ObjName, ObjectKey, Text, TryCopy};
+use dd_names::{List, Name, ObjName, ObjectKey, Text, TryCopy, both};
 use rules_create::constraint_front;
 use sql_ast::{
     CreateTable, Element, RenamePair, SchemaStatement, SessionState, Statement, TableBody,
@@ -24,7 +24,9 @@ pub(crate) fn bringing_of(statement: &Statement) -> Bringing {
     match statement {
         Statement::Schema(SchemaStatement::Drop { .. }) => Bringing::Children,
         Statement::Table(TableStatement::Drop { .. }) => Bringing::Children,
-        Statement::Table(TableStatement::Rename { .. }) => Bringing::WholeChildren,
+        Statement::Table(TableStatement::Rename { .. } | TableStatement::Truncate { .. }) => {
+            Bringing::WholeChildren
+        }
         _ => Bringing::Nothing,
     }
 }
@@ -35,78 +37,84 @@ pub(crate) fn first_keys(
     session: &SessionState,
     statement: &Statement,
 ) -> Result<List<ObjectKey>, AllocError> {
-    match statement {
-        Statement::Schema(SchemaStatement::Drop { name, .. }) => keys_of_schema(alloc, name),
-        Statement::Table(statement) => keys_of_tables(alloc, session, statement),
-        _ => Ok(List::new(alloc)),
+    let mut keys = List::new(alloc);
+    match add_first_keys(alloc, session, statement, &mut keys) {
+        Ok(()) => Ok(keys),
+        Err(error) => Err(error),
     }
 }
 
-fn keys_of_schema(alloc: Global, schema: &Name) -> Result<List<ObjectKey>, AllocError> {
-    let mut keys = List::new(alloc);
-    keys.push(ObjectKey::Schema(schema.copy()?))?;
-    keys.push(ObjectKey::Objects(schema.copy()?))?;
-    Ok(keys)
+fn add_first_keys(
+    alloc: Global,
+    session: &SessionState,
+    statement: &Statement,
+    keys: &mut List<ObjectKey>,
+) -> Result<(), AllocError> {
+    match statement {
+        Statement::Schema(SchemaStatement::Drop { name, .. }) => add_schema(name, keys),
+        Statement::Table(statement) => add_of_table(alloc, session, statement, keys),
+        _ => Ok(()),
+    }
 }
 
-fn keys_of_tables(
+// The schema and the list of its objects.
+fn add_schema(schema: &Name, keys: &mut List<ObjectKey>) -> Result<(), AllocError> {
+    add_key(schema.copy().map(ObjectKey::Schema), keys)?;
+    add_key(schema.copy().map(ObjectKey::Objects), keys)
+}
+
+fn add_of_table(
     alloc: Global,
     session: &SessionState,
     statement: &TableStatement,
-) -> Result<List<ObjectKey>, AllocError> {
+    keys: &mut List<ObjectKey>,
+) -> Result<(), AllocError> {
     match statement {
-        TableStatement::Create(words) => keys_of_table(alloc, session, words),
-        TableStatement::Drop { tables, .. } => keys_of_names(alloc, session, tables.as_slice()),
-        TableStatement::Rename { pairs } => keys_of_pairs(alloc, session, pairs.as_slice()),
-        _ => Ok(List::new(alloc)),
+        TableStatement::Create(words) => add_created(alloc, session, words, keys),
+        TableStatement::Drop { tables, .. } => add_names(session, tables.as_slice(), keys),
+        TableStatement::Rename { pairs } => add_pairs(session, pairs.as_slice(), keys),
+        TableStatement::Truncate { table } => add_named(&session.current, table, keys),
+        _ => Ok(()),
     }
 }
 
-fn keys_of_names(
-    alloc: Global,
+fn add_names(
     session: &SessionState,
     tables: &[ObjRef],
-) -> Result<List<ObjectKey>, AllocError> {
-    let mut keys = List::new(alloc);
+    keys: &mut List<ObjectKey>,
+) -> Result<(), AllocError> {
     'tables: for table in tables {
-        add_named(&session.current, table, &mut keys)?;
+        add_named(&session.current, table, keys)?;
     }
-    Ok(keys)
+    Ok(())
 }
 
-fn keys_of_pairs(
-    alloc: Global,
+fn add_pairs(
     session: &SessionState,
     pairs: &[RenamePair],
-) -> Result<List<ObjectKey>, AllocError> {
-    let mut keys = List::new(alloc);
+    keys: &mut List<ObjectKey>,
+) -> Result<(), AllocError> {
     'pairs: for pair in pairs {
-        add_named(&session.current, &pair.from, &mut keys)?;
-        add_named(&session.current, &pair.to, &mut keys)?;
+        add_named(&session.current, &pair.from, keys)?;
+        add_named(&session.current, &pair.to, keys)?;
     }
-    Ok(keys)
+    Ok(())
 }
 
-fn keys_of_table(
+// The table, and its source or what its foreign keys name.
+fn add_created(
     alloc: Global,
     session: &SessionState,
     words: &CreateTable,
-) -> Result<List<ObjectKey>, AllocError> {
-    let mut keys = List::new(alloc);
-    add_named(&session.current, &words.table, &mut keys)?;
-    if let (Some(schema), TableBody::Elements(elements)) = (
-        schema_of(&session.current, &words.table),
-        &words.body,
-    ) {
-        add_elements(
-            alloc,
-            schema,
-            &words.table.name,
-            elements.as_slice(),
-            &mut keys,
-        )?;
+    keys: &mut List<ObjectKey>,
+) -> Result<(), AllocError> {
+    add_named(&session.current, &words.table, keys)?;
+    match &words.body {
+        TableBody::Like(source) => add_named(&session.current, source, keys),
+        TableBody::Elements(elements) => {
+            add_elements(alloc, session, &words.table, elements.as_slice(), keys)
+        }
     }
-    Ok(keys)
 }
 
 // The schema that is written, or the current one.
@@ -125,22 +133,27 @@ fn add_named(
 ) -> Result<(), AllocError> {
     match schema_of(current, named) {
         Some(schema) => {
-            keys.push(ObjectKey::Schema(schema.copy()?))?;
+            add_key(schema.copy().map(ObjectKey::Schema), keys)?;
             add_object(schema, &named.name, keys)
         }
         None => Ok(()),
     }
 }
 
-fn add_object(schema: &Name, name: &Name, keys: &mut List<ObjectKey>) -> Result<(), AllocError> {
-    keys.push(ObjectKey::Object(ObjName {
-        schema: schema.copy()?,
-        name: name.copy()?,
-    }))?;
-    Ok(())
+fn add_elements(
+    alloc: Global,
+    session: &SessionState,
+    table: &ObjRef,
+    elements: &[Element],
+    keys: &mut List<ObjectKey>,
+) -> Result<(), AllocError> {
+    match schema_of(&session.current, table) {
+        Some(schema) => add_elements_in(alloc, schema, &table.name, elements, keys),
+        None => Ok(()),
+    }
 }
 
-fn add_elements(
+fn add_elements_in(
     alloc: Global,
     schema: &Name,
     table: &Name,
@@ -186,10 +199,17 @@ fn add_made(
     number: u64,
     keys: &mut List<ObjectKey>,
 ) -> Result<(), AllocError> {
+    match made_name(alloc, front, number)? {
+        Some(name) => add_constraint(schema, &name, keys),
+        None => Ok(()),
+    }
+}
+
+fn made_name(alloc: Global, front: &str, number: u64) -> Result<Option<Name>, AllocError> {
     let made = Text::from_string(format!(in alloc; "{front}{number}")?);
     match Name::read(alloc, made.as_str(), true) {
-        Ok(name) => add_constraint(schema, &name, keys),
-        Err(_) => Ok(()),
+        Ok(name) => Ok(Some(name)),
+        Err(_) => Ok(None),
     }
 }
 
@@ -198,11 +218,14 @@ fn add_constraint(
     name: &Name,
     keys: &mut List<ObjectKey>,
 ) -> Result<(), AllocError> {
-    keys.push(ObjectKey::Constraint {
-        schema: schema.copy()?,
-        folded: name.fold()?,
-    })?;
-    Ok(())
+    add_key(constraint_key(schema, name), keys)
+}
+
+fn constraint_key(schema: &Name, name: &Name) -> Result<ObjectKey, AllocError> {
+    match both(schema.copy(), name.fold()) {
+        Ok((schema, folded)) => Ok(ObjectKey::Constraint { schema, folded }),
+        Err(error) => Err(error),
+    }
 }
 
 /// Adds the keys that this one brings with it, by what stands there.
@@ -212,20 +235,13 @@ pub(crate) fn add_brought(
     object: &Object,
     keys: &mut List<ObjectKey>,
 ) -> Result<(), AllocError> {
-    match (bringing, key, object) {
-        (_, ObjectKey::Objects(schema), Object::Objects(names)) => {
+    match (key, object) {
+        (ObjectKey::Objects(schema), Object::Objects(names)) => {
             add_objects(schema, names.as_slice(), keys)
         }
-        (
-            Bringing::Children | Bringing::WholeChildren,
-            ObjectKey::Object(table),
-            Object::Table { .. },
-        ) => {
-            keys.push(ObjectKey::Children(table.copy()?))?;
-            Ok(())
-        }
-        (Bringing::WholeChildren, ObjectKey::Children(_), Object::Children(tables)) => {
-            add_tables(tables.as_slice(), keys)
+        (ObjectKey::Object(table), Object::Table { .. }) => add_children(bringing, table, keys),
+        (ObjectKey::Children(_), Object::Children(tables)) => {
+            add_whole(bringing, tables.as_slice(), keys)
         }
         _ => Ok(()),
     }
@@ -242,9 +258,55 @@ fn add_objects(
     Ok(())
 }
 
+fn add_children(
+    bringing: Bringing,
+    table: &ObjName,
+    keys: &mut List<ObjectKey>,
+) -> Result<(), AllocError> {
+    match bringing {
+        Bringing::Nothing => Ok(()),
+        Bringing::Children | Bringing::WholeChildren => {
+            add_key(table.copy().map(ObjectKey::Children), keys)
+        }
+    }
+}
+
+fn add_whole(
+    bringing: Bringing,
+    tables: &[ObjName],
+    keys: &mut List<ObjectKey>,
+) -> Result<(), AllocError> {
+    match bringing {
+        Bringing::Nothing | Bringing::Children => Ok(()),
+        Bringing::WholeChildren => add_tables(tables, keys),
+    }
+}
+
 fn add_tables(tables: &[ObjName], keys: &mut List<ObjectKey>) -> Result<(), AllocError> {
     'tables: for table in tables {
         add_object(&table.schema, &table.name, keys)?;
     }
     Ok(())
+}
+
+fn add_object(schema: &Name, name: &Name, keys: &mut List<ObjectKey>) -> Result<(), AllocError> {
+    add_key(object_key(schema, name), keys)
+}
+
+fn object_key(schema: &Name, name: &Name) -> Result<ObjectKey, AllocError> {
+    match both(schema.copy(), name.copy()) {
+        Ok((schema, name)) => Ok(ObjectKey::Object(ObjName { schema, name })),
+        Err(error) => Err(error),
+    }
+}
+
+// Adds a key, where there was memory for it.
+fn add_key(
+    made: Result<ObjectKey, AllocError>,
+    keys: &mut List<ObjectKey>,
+) -> Result<(), AllocError> {
+    match made {
+        Ok(key) => Ok(keys.push(key)?),
+        Err(error) => Err(error),
+    }
 }

@@ -6,6 +6,7 @@ ghost use Rattle.dd_engine.specs.Catalog.{new_session};
 ghost use Rattle.dd_engine.specs.Engine.{Adds, IsPlainHistory};
 
 use crate::history::{Entry, History};
+use crate::listed::MAX_LISTED;
 use crate::settle::step;
 use crate::state::State;
 use dd_names::List;
@@ -106,6 +107,7 @@ fn first_state(alloc: Global) -> State
     ensures catalog { result.catalog ≡ empty_catalog }
     ensures session { result.session ≡ new_session 0 }
     ensures next { result.next ≡ 1 }
+    ensures room { result.room ≡ MAX_LISTED }
 {
     State {
         catalog: PlainCatalog::new(alloc),
@@ -115,5 +117,6 @@ fn first_state(alloc: Global) -> State
             tries: 31_536_000,
         },
         next: 1,
+        room: MAX_LISTED,
     }
 }

@@ -1,23 +1,27 @@
 // What a decided statement is answered, and the state that it leaves.
-ghost use Rattle.std.specs.Prelude.{◌≡◌, ◌<◌, IfOk, OnErr, None, true};
+ghost use Rattle.std.specs.Prelude.{◌≡◌, ◌<◌, IfOk, OnErr, None, map, true};
 ghost use Rattle.std.specs.List.{list_any};
 ghost use Rattle.dd_errors.specs.Errors.{ErrorValue};
 ghost use Rattle.dd_catalog.specs.Walks.{Found, fine};
-ghost use Rattle.rules_outcome.specs.Choices.{Choice, Same, draws, makes_space, takes_number, takes_space};
+ghost use Rattle.rules_outcome.specs.Choices.{Choice, Lists, Same, applied, draws, makes_space, takes_number, takes_space};
 ghost use Rattle.rules_outcome.specs.declared.decided.Edit.{Edit};
 ghost use Rattle.rules_outcome.specs.Decided.{change_of, choice_of, chosen};
-ghost use Rattle.rules_decide.specs.Outcome.{is_decided};
+ghost use Rattle.rules_decide.specs.Outcome.{DecidesIf, is_decided, outcome_over};
 ghost use Rattle.dd_engine.specs.Drawn.{IsOutAt, spaces_of};
 ghost use Rattle.dd_engine.specs.Engine.{Answered, Settles, Steps};
+ghost use Rattle.dd_engine.specs.Listed.{answer_size};
 ghost use Rattle.dd_engine.specs.History.{AnswersFound, choice_found, done_of, space_in};
 
-use crate::decided_over::decided_over;
+use crate::decisions::{Decision, decided_over};
 use crate::history::Answer;
+use crate::listed::room_behind;
 use crate::state::State;
 use dd_catalog::Stop;
 use dd_names::List;
+use plain_catalog::PlainCatalog;
 use rules_outcome::{After, Decided, Edit, Edits};
 use sql_ast::Statement;
+use sql_types::Listing;
 use std::alloc::{AllocError, Global};
 
 /// A statement's answer, with the numbers of tablespaces that it took.
@@ -61,12 +65,25 @@ fn answered(alloc: Global, state: State, statement: &Statement) -> Result<Settle
     requires { is_decided statement.now ≡ true }
     ensures { IfOk result (λ settled. Answered state statement.now settled.answer settled.state settled.spaces) }
 {
-    match decided_over(alloc, &state.catalog, &state.session, statement) {
+    match outcome_of(alloc, &state, statement) {
         Ok(decided) => settle(alloc, state, decided),
         Err(Stop::Refused(error)) => Ok(unchanged(alloc, state, Answer::Error(error))),
         Err(Stop::Memory) => Ok(unchanged(alloc, state, Answer::Memory)),
         Err(Stop::Need(_)) => unreachable!(),
     }
+}
+
+fn outcome_of(alloc: Global, state: &State, statement: &Statement) -> Result<Decided, Stop>
+    requires { is_decided statement.now ≡ true }
+    ensures { DecidesIf result (outcome_over state.now.catalog state.now.session statement.now) }
+{
+    let Decision { outcome, begun: _ } = decided_over(
+        alloc,
+        &state.catalog,
+        &state.session,
+        statement,
+    );
+    outcome
 }
 
 fn settle(alloc: Global, state: State, decided: Decided) -> Result<Settled, AllocError>
@@ -75,12 +92,29 @@ fn settle(alloc: Global, state: State, decided: Decided) -> Result<Settled, Allo
     match decided {
         Decided::Edits(edits) => settle_edits(alloc, state, edits),
         Decided::Same => Ok(unchanged(alloc, state, Answer::Done)),
-        Decided::Rows(listing) => Ok(unchanged(alloc, state, Answer::Rows(listing))),
+        Decided::Rows(listing) => Ok(listed(alloc, state, listing)),
+    }
+}
+
+// Lists, where the history has room for it.
+fn listed(alloc: Global, mut state: State, listing: Listing) -> Settled
+    ensures { Settles (fine (Lists listing)) state result.answer result.state result.spaces }
+{
+    match room_behind(&listing, state.room) {
+        Some(room) => {
+            state.room = room;
+            Settled {
+                answer: Answer::Rows(listing),
+                spaces: List::new(alloc),
+                state,
+            }
+        }
+        None => unchanged(alloc, state, Answer::Memory),
     }
 }
 
 fn unchanged(alloc: Global, state: State, answer: Answer) -> Settled
-    ensures { (found : Found ErrorValue Choice) → AnswersFound found answer → IsOutAt state.next answer → done_of (choice_found found) answer ≡ Same → Settles found state result.answer result.state result.spaces }
+    ensures { (found : Found ErrorValue Choice) → AnswersFound found answer → IsOutAt state.next answer → answer_size answer ≡ 0 → done_of (choice_found found) answer ≡ Same → Settles found state result.answer result.state result.spaces }
 {
     Settled {
         answer,
@@ -98,7 +132,21 @@ fn settle_edits(alloc: Global, state: State, edits: Edits) -> Result<Settled, Al
     if numbered && next == u32::MAX {
         return Ok(unchanged(alloc, state, Answer::NoSpaceId { next }));
     }
-    match spaces_of(alloc, makes_spaces(&edits), next) {
+    settle_drawn(alloc, state, edits, numbered)
+}
+
+// Takes the numbers for tablespaces.
+fn settle_drawn(
+    alloc: Global,
+    state: State,
+    edits: Edits,
+    numbered: bool,
+) -> Result<Settled, AllocError>
+    requires numbered { numbered ≡ draws (choice_of edits) }
+    requires room { numbered ≡ true → state.next < 4294967295 }
+    ensures { IfOk result (λ settled. Settles (fine (choice_of edits)) state settled.answer settled.state settled.spaces) }
+{
+    match spaces_of(alloc, makes_spaces(&edits), state.next) {
         Ok(spaces) => changed(state, edits, spaces, numbered),
         Err(_) => Ok(unchanged(alloc, state, Answer::Memory)),
     }
@@ -117,13 +165,14 @@ fn changed(
     ensures { IfOk result (λ settled. Settles (fine (choice_of edits)) state settled.answer settled.state settled.spaces) }
 {
     let State {
-        mut catalog,
+        catalog,
         session,
         next,
+        room,
     } = state;
     drop(session);
     let Edits { puts, session } = edits;
-    catalog.apply(puts, space_in(spaces.as_slice()))?;
+    let catalog = applied(catalog, puts, space_in(spaces.as_slice()))?;
     let next = if numbered { next + 1 } else { next };
     Ok(Settled {
         answer: Answer::Done,
@@ -132,8 +181,22 @@ fn changed(
             catalog,
             session,
             next,
+            room,
         },
     })
+}
+
+fn applied(
+    mut catalog: PlainCatalog,
+    puts: List<Edit>,
+    space: u32,
+) -> Result<PlainCatalog, AllocError>
+    ensures { IfOk result (λ left. left ≡ applied space (map change_of puts) catalog) }
+{
+    match catalog.apply(puts, space) {
+        Ok(()) => Ok(catalog),
+        Err(error) => Err(error),
+    }
 }
 
 // The numbers of tablespaces that are taken.

@@ -8,4 +8,6 @@ pub struct State {
     pub session: SessionState,
     /// The next number for an id or a tablespace.
     pub next: u32,
+    /// The greatest size of what may still be listed.
+    pub room: u64,
 }

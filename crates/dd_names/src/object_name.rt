@@ -4,7 +4,7 @@ use std::alloc::AllocError;
 
 /// The name of a table or a view with the name of its schema. Object names are in order of their schemas and then of
 /// their own names, each byte by byte (MySQL 8.0 Reference Manual, 9.2.2).
-#[derive(Drop, PartialEq, Eq, PartialOrd, Ord)]
+#[derive(Drop, PartialEq, Eq, PartialOrd, Ord, Hash)]
 pub struct ObjName {
     /// The schema's name.
     pub schema: Name,
@@ -23,7 +23,7 @@ impl TryCopy for ObjName {
 
 /// What can be looked at in a dictionary, each by its key. Keys are in the order of their variants, and within one in
 /// that of their names.
-#[derive(Drop, PartialEq, Eq, PartialOrd, Ord)]
+#[derive(Drop, PartialEq, Eq, PartialOrd, Ord, Hash)]
 pub enum ObjectKey {
     /// The names of all schemas.
     Schemas,

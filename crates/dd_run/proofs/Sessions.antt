@@ -60,7 +60,7 @@ pub one_longer : (old new : List Entry) (statement : Statement) → Adds old new
 one_longer old new statement adds = ap (λ (l : List Entry). length l) adds.last ∙ length_push old adds.entry
 
 pub nothing_said : IsPlainHistory []
-nothing_said = record { legal = tt; plain = tt; named = tt; numbers = tt }
+nothing_said = record { legal = tt; plain = tt; named = tt; numbers = tt; listed = omega arith }
 
 -- ## One session
 
@@ -71,6 +71,7 @@ module _ (scripts : List Script) (script : Script) (is : scripts ≡ script ∷ 
     numbered = each_numbered history said.plain;
     within = within 0 history said.plain;
     numbers = λ less. had_numbers empty_catalog new_session 1 history said.legal said.numbers (omega (arith, less));
+    listed = said.listed;
   })
 
   own : answered history 0 ≡ map statement_of_entry history
@@ -84,4 +85,4 @@ module _ (scripts : List Script) (script : Script) (is : scripts ≡ script ∷ 
 
 -- without sessions there is no entry
 pub no_history : IsHistoryOf [] []
-no_history = record { legal = tt; numbered = λ s. tt; within = tt; numbers = λ less. tt }
+no_history = record { legal = tt; numbered = λ s. tt; within = tt; numbers = λ less. tt; listed = omega arith }

@@ -1,5 +1,5 @@
 -- What a run of the program is: its answers, its output, and why it ends as it does.
-use Rattle.std.specs.Prelude.{ℕ, ◌≡◌, ◌+◌, ◌<◌, List, [], ◌∷◌, map, take, length, Option, None, Some, Result, ⊤}
+use Rattle.std.specs.Prelude.{ℕ, ◌≡◌, ◌+◌, ◌<◌, ◌≤◌, List, [], ◌∷◌, map, take, length, Option, None, Some, Result, ⊤}
 use Rattle.std.specs.declared.result.Result.TheVariants as results
 use Rattle.std.specs.List.{AllByRecursion}
 use Rattle.std.specs.Io.KnownBytes.{Keeps, Appends}
@@ -9,6 +9,7 @@ use Rattle.dd_engine.specs.declared.history.Entry.{Entry}
 use Rattle.dd_catalog.specs.Catalog.{empty_catalog}
 use Rattle.dd_engine.specs.History.{part, LegalHistory, IsNumbered}
 use Rattle.dd_engine.specs.Drawn.{HadNumber}
+use Rattle.dd_engine.specs.Listed.{listed_size}
 use Rattle.script_cut.specs.declared.fault.ScriptFault.{ScriptFault}
 use Rattle.script_read.specs.declared.script.Script.{Script}
 use Rattle.script_read.specs.Scripts.{scripts}
@@ -20,12 +21,13 @@ use Rattle.dd_run.specs.Printed.{printed}
 -- ## The history
 
 -- A dictionary of one thread that begins without schemas makes this history of these sessions. Where the numbers suffice, it
--- says of no statement that none is left.
+-- says of no statement that none is left. Of listings it keeps some 512 MiB at most.
 pub record IsHistoryOf (sessions : List Script) (history : List Entry) : Type 0 where
   pub legal : LegalHistory empty_catalog history
   pub numbered : IsNumbered history
   pub within : AllByRecursion (λ e. e.session < length sessions) history
   pub numbers : length history < 4294967295 → AllByRecursion (λ e. HadNumber e.answer) history
+  pub listed : listed_size history ≤ 536870912
 
 -- the statements that a session has had answered, in order
 abbrev pub answered : List Entry → ℕ → List Statement

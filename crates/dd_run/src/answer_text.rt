@@ -1,6 +1,8 @@
 // The text of an answer.
-ghost use Rattle.std.specs.Prelude.{◌≡◌, ◌++◌, IfOk, OnOk, map};
+ghost use Rattle.std.specs.Prelude.{◌≡◌, ◌++◌, ◌∷◌, [], IfOk, OnOk, codes, map};
+ghost use Rattle.std.specs.Fmt.{decimal};
 ghost use Rattle.std.specs.List.{flat_map};
+ghost use Rattle.dd_errors.specs.Errors.{error_text};
 ghost use Rattle.dd_run.specs.Printed.{answer_text, behind_tab, cell_text, entry_text, error_line, escaped, line_of, listing_text, no_number_left, row_text};
 
 use dd_engine::{Answer, Entry};
@@ -40,13 +42,31 @@ fn no_number_left(alloc: Global) -> SqlError
 fn push_error(alloc: Global, out: &mut Vec<u8>, error: &SqlError) -> Result<(), AllocError>
     ensures { OnOk result (out.new.items ≡ out.old.items ++ error_line error.now) }
 {
-    let number = error.number().to_string(alloc)?;
-    let text = error.text(alloc)?;
+    push_number(alloc, out, error.number())?;
+    push_state(out, &error.state())?;
+    push_message(alloc, out, error)
+}
+
+fn push_number(alloc: Global, out: &mut Vec<u8>, number: u16) -> Result<(), AllocError>
+    ensures { OnOk result (out.new.items ≡ out.old.items ++ codes "ERROR " ++ decimal number) }
+{
+    let number = number.to_string(alloc)?;
     out.extend_from_slice(b"ERROR ")?;
-    out.extend_from_slice(number.as_bytes())?;
+    out.extend_from_slice(number.as_bytes())
+}
+
+fn push_state(out: &mut Vec<u8>, state: &[u8]) -> Result<(), AllocError>
+    ensures { OnOk result (out.new.items ≡ out.old.items ++ codes " (" ++ state.now ++ codes "): ") }
+{
     out.extend_from_slice(b" (")?;
-    out.extend_from_slice(&error.state())?;
-    out.extend_from_slice(b"): ")?;
+    out.extend_from_slice(state)?;
+    out.extend_from_slice(b"): ")
+}
+
+fn push_message(alloc: Global, out: &mut Vec<u8>, error: &SqlError) -> Result<(), AllocError>
+    ensures { OnOk result (out.new.items ≡ out.old.items ++ error_text error.now ++ 10 ∷ []) }
+{
+    let text = error.text(alloc)?;
     out.extend_from_slice(text.as_str().as_bytes())?;
     out.extend_from_slice(b"\n")
 }

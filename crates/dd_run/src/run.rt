@@ -3,7 +3,7 @@ ghost use Rattle.std.specs.Prelude.{◌≡◌, ◌↔◌, ◌+◌, ◌≤◌, �
 ghost use Rattle.std.specs.Io.KnownBytes.{IsAtEnd};
 ghost use Rattle.edge_io.specs.Causes.{Rose};
 ghost use Rattle.edge_io.specs.Content.{ConsumesAtMost};
-ghost use Rattle.dd_engine.specs.Engine.{IsPlainHistory};
+ghost use Rattle.dd_engine.specs.Engine.{Adds, IsPlainHistory};
 ghost use Rattle.dd_run.specs.Headline.{AllAnswered, AreRun, FirstAnswered, Headline, InputIs, IsDone, IsGood, IsHistoryOf};
 ghost use Rattle.dd_run.specs.Ending.{AreRunnable, IsPrinted, IsRefused, IsRun, IsRunnable, IsRunnableScript, IsUnread, statement_of_entry, status_of, status_of_fault};
 ghost use Rattle.dd_run.specs.Printed.{printed_names};
@@ -220,10 +220,39 @@ fn answer_all(alloc: Global, statements: List<Statement>) -> (History, Result<()
     ensures first { (n : ℕ) × (map statement_of_entry result.0 ≡ take n statements) }
 {
     let mut engine = PlainEngine::new(alloc);
+    let answered = answer_each(&mut engine, statements);
+    (engine.take(), answered)
+}
+
+fn answer_each(engine: &mut PlainEngine, statements: List<Statement>) -> Result<(), AllocError>
+    requires fresh { engine.old ≡ [] }
+    requires few { length statements ≤ 100000 }
+    requires each { AllByRecursion IsRunnable statements }
+    ensures said { IsPlainHistory engine.new }
+    ensures all { OnOk result (map statement_of_entry engine.new ≡ statements) }
+    ensures first { (n : ℕ) × (map statement_of_entry engine.new ≡ take n statements) }
+{
     'statements: for statement in statements.into_vec() {
-        if let Err((_, error)) = engine.answer(statement) {
-            return (engine.take(), Err(error));
+        if let Err(error) = answer(engine, statement) {
+            return Err(error);
         }
     }
-    (engine.take(), Ok(()))
+    Ok(())
+}
+
+// A statement that finds no memory is let go.
+fn answer(engine: &mut PlainEngine, statement: Statement) -> Result<(), AllocError>
+    requires room { length engine.old < 2 ^ 32 }
+    requires runs { IsRunnable statement }
+    ensures ok { OnOk result (Adds engine.old engine.new statement) }
+    ensures err { OnErr result (engine.new ≡ engine.old) }
+    ensures said { IsPlainHistory engine.new }
+{
+    match engine.answer(statement) {
+        Ok(()) => Ok(()),
+        Err((statement, error)) => {
+            drop(statement);
+            Err(error)
+        }
+    }
 }

@@ -48,12 +48,12 @@ map_of_none = finite_map.empty_of_len (map_of []) (finite_map.len-entries (map_o
 pub got_at : (es : List (ObjName × Placed)) (q : ObjName) → are_in_order es → finite_map.get (map_of es) q ≡ lookup (is_at (object_cmp q)) es
 got_at es q sorted = in_order.got object_cmp es q sorted
 
-pub with_object : (es new : List (ObjName × Placed)) (k : ObjName) (v : Placed) → are_in_order es → IsStrictlySortedBy object_cmp (keys_of new)
+pub with_object : (es new : List (ObjName × Placed)) (k : ObjName) (v : Placed) → are_in_order es → are_in_order new
     → ((q : ObjName) → lookup (is_at (object_cmp q)) new ≡ cond (is_at (object_cmp k) q) (Some v) (lookup (is_at (object_cmp q)) es))
     → map_of new ≡ finite_map.insert (map_of es) k v
-with_object es new k v sorted now_sorted is = in_order.inserted object_cmp object_total object_alone es new k v sorted (rises new now_sorted) is
+with_object es new k v sorted now_sorted is = in_order.inserted object_cmp object_total object_alone es new k v sorted now_sorted is
 
-pub without_object : (es new : List (ObjName × Placed)) (k : ObjName) → are_in_order es → IsStrictlySortedBy object_cmp (keys_of new)
+pub without_object : (es new : List (ObjName × Placed)) (k : ObjName) → are_in_order es → are_in_order new
     → ((q : ObjName) → lookup (is_at (object_cmp q)) new ≡ cond (is_at (object_cmp k) q) None (lookup (is_at (object_cmp q)) es))
     → map_of new ≡ finite_map.remove (map_of es) k
-without_object es new k sorted now_sorted is = in_order.removed object_cmp object_total object_alone es new k sorted (rises new now_sorted) is
+without_object es new k sorted now_sorted is = in_order.removed object_cmp object_total object_alone es new k sorted now_sorted is

@@ -35,7 +35,7 @@ module _ {K X : Type 0} (R : K → K → Ordering) where
   risen [] h = tt
   risen (e ∷ es) h = both (below_all R e.0 es) (finite_map.is_sorted R es) (below e.0 es (sorted_head R e.0 (keys_of es) h)) (risen es (sorted_tail R e.0 (keys_of es) h))
 
-  found : (q : K) (es : List (K × X)) → finite_map.find R q es ≡ lookup (is_at (R q)) es
+  pub found : (q : K) (es : List (K × X)) → finite_map.find R q es ≡ lookup (is_at (R q)) es
   found q [] = refl
   found q (e ∷ es) = ap (λ rest. cond (eq_by_cmp R q e.0) (Some e.1) rest) (found q es)
 

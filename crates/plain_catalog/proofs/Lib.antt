@@ -1,6 +1,7 @@
 pub mod InOrder
 pub mod Sorted
 pub mod ByName
-pub mod Folded
+pub mod Standing
+pub mod Indexed
 pub mod Keys
 pub mod Changes

@@ -1,19 +1,15 @@
 // What a catalog lists: the names in a schema, the children of a table, the owner of a constraint.
-ghost use Rattle.std.specs.Prelude.{◌≡◌, ◌++◌, ◌&&◌, [], ◌∷◌, not, IfOk, OnOk, if◌then◌else◌};
-ghost use Rattle.std.specs.List.{list_all, list_any};
-ghost use Rattle.std.specs.Option.{option_copied};
+ghost use Rattle.std.specs.Prelude.{◌≡◌, ◌++◌, [], ◌∷◌, IfOk, OnOk, if◌then◌else◌};
 ghost use Rattle.std.specs.Str.{bytes_eq};
 ghost use Rattle.std.specs.FinMap as finite_map;
-ghost use Rattle.dd_names.specs.Names.{fold};
-ghost use Rattle.dd_definitions.specs.declared.foreign_keys.ForeignKeyDef.{ForeignKeyDef as Key};
-ghost use Rattle.dd_catalog.specs.Catalog.{is_same_object, refers_to, has_constraint, names_among, children_among, owner_among};
-ghost use Rattle.plain_catalog.specs.Owners.{is_no_capital, owner_or_nothing};
+ghost use Rattle.dd_catalog.specs.Catalog.{names_among};
+ghost use Rattle.dd_catalog.specs.Sights.{sight};
+ghost use Rattle.plain_catalog.specs.Listed.{first_seen, listing_seen, listed_at};
 
 use crate::name_set::NameSet;
 use crate::object_map::ObjectMap;
-use crate::stored::StoredObject;
-use dd_definitions::ForeignKeyDef;
-use dd_names::{List, Name, ObjName, TryCopy};
+use dd_catalog::Object;
+use dd_names::{List, Name, ObjName, ObjectKey, TryCopy};
 use std::alloc::{AllocError, Global};
 
 /// The names in byte order.
@@ -51,84 +47,35 @@ fn add_name(schema: &Name, name: &ObjName, names: &mut List<Name>) -> Result<(),
     Ok(())
 }
 
-/// The other tables with a foreign key on this one, in order.
-pub(crate) fn children_of(
+/// What stands at a key of children or of a constraint.
+pub(crate) fn tables_listed(
     alloc: Global,
     objects: &ObjectMap,
-    parent: &ObjName,
-) -> Result<List<ObjName>, AllocError>
-    ensures { IfOk result (λ children. children ≡ children_among parent.now (finite_map.entries objects.now)) }
+    key: &ObjectKey,
+) -> Result<Object, AllocError>
+    ensures { IfOk result (λ object. sight object ≡ listed_at key.now (finite_map.entries objects.now)) }
 {
-    let mut children = List::new(alloc);
-    'objects: for (name, object) in objects.iter() {
-        add_child(parent, name, object, &mut children)?;
+    let tables = objects.standing(alloc, key)?;
+    listing(key, tables)
+}
+
+fn listing(key: &ObjectKey, tables: List<ObjName>) -> Result<Object, AllocError>
+    ensures { IfOk result (λ object. sight object ≡ listing_seen key.now tables) }
+{
+    match key {
+        ObjectKey::Children(_) => Ok(Object::Children(tables)),
+        ObjectKey::Constraint { .. } => first_owner(tables.as_slice()),
+        _ => Ok(Object::Absent),
     }
-    Ok(children)
 }
 
-fn add_child(
-    parent: &ObjName,
-    name: &ObjName,
-    object: &StoredObject,
-    children: &mut List<ObjName>,
-) -> Result<(), AllocError>
-    ensures { OnOk result (children.new ≡ children.old ++ (if refers_to parent.now object.now && not (is_same_object name.now parent.now) then name.now ∷ [] else [])) }
+fn first_owner(tables: &[ObjName]) -> Result<Object, AllocError>
+    ensures { IfOk result (λ object. sight object ≡ first_seen tables.now) }
 {
-    if refers_to(object.foreign_keys(), parent) && !is_same_object(name, parent) {
-        children.push(name.copy()?)?;
+    match tables {
+        [] => Ok(Object::Absent),
+        [first, ..] => Ok(Object::Constraint {
+            table: first.copy()?,
+        }),
     }
-    Ok(())
-}
-
-fn refers_to(keys: &[ForeignKeyDef], parent: &ObjName) -> bool
-    ensures { result ≡ list_any (λ (key : Key). is_same_object key.parent parent.now) keys.now }
-{
-    keys.iter().any(|key| is_same_object(&key.parent, parent))
-}
-
-fn is_same_object(a: &ObjName, b: &ObjName) -> bool
-    ensures { result ≡ is_same_object a.now b.now }
-{
-    a.schema == b.schema && a.name == b.name
-}
-
-/// The table of the schema that has a constraint whose name folds to this, if one has.
-pub(crate) fn owner_of<'a>(
-    objects: &'a ObjectMap,
-    schema: &Name,
-    folded: &Name,
-) -> Option<&'a ObjName>
-    ensures { owner_or_nothing (option_copied result) ≡ owner_among schema.now folded.now (finite_map.entries objects.now) }
-{
-    'objects: for (name, object) in objects.iter() {
-        if is_owner(name, object, schema, folded) {
-            return Some(name);
-        }
-    }
-    None
-}
-
-fn is_owner(name: &ObjName, object: &StoredObject, schema: &Name, folded: &Name) -> bool
-    ensures { result ≡ (bytes_eq name.now.schema schema.now && has_constraint folded.now object.now) }
-{
-    name.schema == *schema && has_constraint(object.foreign_keys(), folded)
-}
-
-fn has_constraint(keys: &[ForeignKeyDef], folded: &Name) -> bool
-    ensures { result ≡ list_any (λ (key : Key). bytes_eq (fold key.name) folded.now) keys.now }
-{
-    keys.iter().any(|key| folds_to(&key.name, folded))
-}
-
-/// Whether the name with its letters in lower case is the other as it stands.
-fn folds_to(name: &Name, folded: &Name) -> bool
-    ensures { result ≡ bytes_eq (fold name.now) folded.now }
-{
-    name.same(folded) && has_no_capital(folded.as_str().as_bytes())
-}
-
-fn has_no_capital(bytes: &[u8]) -> bool
-    ensures { result ≡ list_all is_no_capital bytes.now }
-{
-    bytes.iter().all(|c| !c.is_ascii_uppercase())
 }

@@ -1,13 +1,13 @@
 ghost use Rattle.std.specs.Prelude.{◌≡◌, map, IfOk, OnOk};
 ghost use Rattle.std.specs.FinMap as finite_map;
-ghost use Rattle.dd_catalog.specs.Catalog.{sight_of, empty_catalog, schema_seen, object_seen, owner_among};
+ghost use Rattle.dd_catalog.specs.Catalog.{sight_of, empty_catalog, schema_seen, object_seen};
 ghost use Rattle.dd_catalog.specs.Sights.{sight};
 ghost use Rattle.rules_outcome.specs.Choices.{applied, applied_at};
 ghost use Rattle.rules_outcome.specs.Decided.{after_of, change_of};
 ghost use Rattle.plain_catalog.specs.Whole.{catalog_of};
 
 use crate::changed::{change_object, change_schema};
-use crate::listed::{all_names, children_of, names_in, owner_of};
+use crate::listed::{all_names, names_in, tables_listed};
 use crate::name_set::NameSet;
 use crate::object_map::ObjectMap;
 use dd_catalog::Object;
@@ -47,8 +47,7 @@ impl PlainCatalog {
         }
     }
 
-    /// A copy of what stands at the key, without ids. A schema and an object are searched for; lists, children and the owner
-    /// of a constraint take a look at each object.
+    /// A copy of what stands at the key, without ids. It is searched for; only a list of names takes a look at each object.
     pub fn at(&self, alloc: Global, key: &ObjectKey) -> Result<Object, AllocError>
         ensures { IfOk result (λ object. sight object ≡ sight_of self.now key.now) }
     {
@@ -92,8 +91,7 @@ fn standing_at(
         ObjectKey::Schema(name) => Ok(schema_at(schemas, name)),
         ObjectKey::Objects(schema) => Ok(Object::Objects(names_in(alloc, objects, schema)?)),
         ObjectKey::Object(name) => object_at(objects, name),
-        ObjectKey::Children(parent) => Ok(Object::Children(children_of(alloc, objects, parent)?)),
-        ObjectKey::Constraint { schema, folded } => owner_at(objects, schema, folded),
+        ObjectKey::Children(_) | ObjectKey::Constraint { .. } => tables_listed(alloc, objects, key),
     }
 }
 
@@ -113,16 +111,5 @@ fn object_at(objects: &ObjectMap, name: &ObjName) -> Result<Object, AllocError>
     match objects.get(name) {
         None => Ok(Object::Absent),
         Some(object) => object.object(),
-    }
-}
-
-fn owner_at(objects: &ObjectMap, schema: &Name, folded: &Name) -> Result<Object, AllocError>
-    ensures { IfOk result (λ object. sight object ≡ owner_among schema.now folded.now (finite_map.entries objects.now)) }
-{
-    match owner_of(objects, schema, folded) {
-        None => Ok(Object::Absent),
-        Some(owner) => Ok(Object::Constraint {
-            table: owner.copy()?,
-        }),
     }
 }

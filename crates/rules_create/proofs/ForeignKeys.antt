@@ -107,13 +107,13 @@ name_apart look parts name x is =
     let (owner, seen, last) = bind_fine look (look_at (keys.Constraint parts.name.schema (fold name))) _ x is in
     (or_parts (is_owned_elsewhere parts.name owner) (has_constraint_named parts.foreign_keys name) (not_refused look (is_owned_elsewhere parts.name owner || has_constraint_named parts.foreign_keys name) (fk_dup_name name) x last)).1
 
-key_is_made : (look : Look) (parts : TableParts) (key made : ForeignKeyDef) → run look (foreign_key_of parts key) ≡ fine made → IsKeyMade parts key made
+key_is_made : (look : Look) (parts : TableParts) (written : List (List ℕ)) (key made : ForeignKeyDef) → run look (foreign_key_of parts written key) ≡ fine made → IsKeyMade parts key made
 unfolding foreign_key_of
-key_is_made look parts key made is =
+key_is_made look parts written key made is =
     let (parent, _, after_parent) = bind_fine look (parent_of parts key.parent) _ made is in
     let (_, _, after_index) = bind_fine look (refuse_if (not (has_index_from parent.indexes key.parent_columns)) (fk_no_index_parent key.name key.parent.name)) _ made after_parent in
-    let (_, _, after_kinds) = bind_fine look (refuse_some (odd_pair_refused key.name (first_odd_pair parts.columns parent.columns key.columns key.parent_columns))) _ made after_index in
-    let (_, _, after_null) = bind_fine look (refuse_some (set_null_refused parts.columns key)) _ made after_kinds in
+    let (_, _, after_kinds) = bind_fine look (refuse_some (odd_pair_refused written key.name (first_odd_pair parts.columns parent.columns key.columns key.parent_columns))) _ made after_index in
+    let (_, _, after_null) = bind_fine look (refuse_some (set_null_refused written parts.columns key)) _ made after_kinds in
     let (free, apart, last) = bind_fine look (name_is_free parts key.name) _ made after_null in
     subst (IsKeyMade parts key) (fine_is last) (record { name = refl; columns = refl; parents = length-map key.parent_columns (spelled parent.columns); apart = name_apart look parts key.name free apart })
 
@@ -182,14 +182,14 @@ foreign_key_keeps look table parts words next so_far is =
     let (columns, found, after_columns) = bind_fine look (key_columns parts.columns words.columns) _ next after_some in
     let (name, _, after_name) = bind_fine look (constraint_name parts words.constraint) _ next after_columns in
     let (indexed, led, after_index) = bind_fine look (with_key_index parts words columns) _ next after_name in
-    let (key, made, last) = bind_fine look (foreign_key_of indexed (key_named words parts.name name columns)) _ next after_index in
+    let (key, made, last) = bind_fine look (foreign_key_of indexed words.columns (key_named words parts.name name columns)) _ next after_index in
     let counted : length columns ≡ length words.columns = columns_counted look parts.columns words.columns columns found in
     let there : (length words.columns == 0) ≡ false = not_refused look (length words.columns == 0) (key_column_does_not_exist []) tt some in
     let within : nat_lt 16 (length words.columns) ≡ false = not_refused look (nat_lt 16 (length words.columns)) too_many_key_parts tt few in
     let equal : (length words.columns == length words.parent_columns) ≡ true =
     not-false (length words.columns == length words.parent_columns) (not_refused look (not (length words.columns == length words.parent_columns)) (refusals.wrong_fk_def (name_in_text words.constraint)) tt as_many) in
     let had : HasKeyIndex parts columns indexed = key_index look parts words columns indexed (columns_spelled look parts.columns words.columns columns found) (ap (λ n. n == 0) counted ∙ there) led in
-    let new : IsKeyMade indexed (key_named words parts.name name columns) key = key_is_made look indexed (key_named words parts.name name columns) key made in
+    let new : IsKeyMade indexed (key_named words parts.name name columns) key = key_is_made look indexed words.columns (key_named words parts.name name columns) key made in
     let fits : are_key_columns parts.columns columns ≡ true = key_columns_formed look parts.columns words.columns columns there within found in
     let numbers : (length columns == length key.parent_columns) ≡ true = same_count (length columns) (length words.columns) (length words.parent_columns) counted equal (length key.parent_columns) new.parents in
     let same : and_key indexed key ≡ next = fine_is {x = and_key indexed key} {y = next} last in

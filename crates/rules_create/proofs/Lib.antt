@@ -4,6 +4,9 @@ pub mod Digits
 pub mod Parts
 pub mod Filled
 pub mod Lists
+pub mod FoldedNames
+pub mod OrderedKeys
+pub mod Linked
 mod MadeNumbers
 pub mod Names
 mod MadeColumns
@@ -12,7 +15,7 @@ mod FreeNames
 mod MadeKeys
 mod WithIndex
 pub mod Order
-mod OneKey
+pub mod OneKey
 mod ForeignKeys
 mod ByClass
 pub mod Formed

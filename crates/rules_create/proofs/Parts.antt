@@ -1,55 +1,87 @@
--- A foreign key whose columns are settled goes on with its name, and one whose name is settled with the rest.
-use Rattle.std.specs.Prelude.{◌≡◌, ℕ, ◌==◌, ◌≤◌, Bool, false, not, nat_lt, List, length}
-use Rattle.std.proofs.Common.{sym, ◌∙◌, ap, subst, arith}
-use Rattle.std.proofs.lemmas.Bool.Decides.{nat_tests}
+-- A foreign key is refused for its columns by themselves, or goes on with them, then with its name, then with the rest.
+use Rattle.std.specs.Prelude.{◌≡◌, ℕ, ◌==◌, Bool, true, false, not, nat_lt, List, [], length, refl}
+use Rattle.std.proofs.Common.{sym, ◌∙◌, ap, subst}
 use Rattle.dd_errors.specs.Errors.{ErrorValue}
 use Rattle.sql_types.specs.declared.words.FkWords.{FkWords}
 use Rattle.dd_definitions.specs.declared.columns.ColumnDef.{ColumnDef}
-use Rattle.dd_definitions.specs.declared.foreign_keys.ForeignKeyDef.{ForeignKeyDef}
 use Rattle.dd_definitions.specs.declared.parts.TableParts.{TableParts}
+use Rattle.dd_definitions.specs.declared.foreign_keys.ForeignKeyDef.{ForeignKeyDef}
 use Rattle.dd_catalog.specs.declared.stop.Stop.{Stop}
-use Rattle.dd_catalog.specs.Walks.{Walk, ◌>>=◌, fine, run, refuse_if}
-use Rattle.dd_catalog.specs.WalkLaws.{Look, run_fine}
+use Rattle.dd_catalog.specs.Walks.{Walk, done, ◌>>=◌, Found, fine, refused, needs, run, refuse_if}
+use Rattle.dd_catalog.specs.WalkLaws.{Look, go_on, run_bind, run_fine}
+use Rattle.dd_catalog.specs.LoopLaws.{stops_all}
 use Rattle.dd_catalog.specs.Follow.{Stops}
-use Rattle.rules_refusals.specs.Refusals.{too_many_key_parts}
+use Rattle.rules_refusals.specs.Refusals.{too_many_key_parts, key_column_does_not_exist}
 use Rattle.rules_elements.specs.Keys.{key_columns}
 use Rattle.rules_refusals.specs.Refusals as refusals
 use Rattle.rules_create.specs.Tables.{some_columns, name_in_text, constraint_name, key_named, one_foreign_key}
-use Rattle.rules_create.specs.Made.{foreign_key_on, with_foreign_key}
+use Rattle.rules_create.specs.Made.{allowed_columns, key_made, foreign_key_on, with_foreign_key}
 
-passed_over : {A : Type 0} (look : Look) (test : Bool) (error : ErrorValue) (next : Unit {0} → Walk ErrorValue A) → test ≡ false → run look (refuse_if test error >>= next) ≡ run look (next tt)
-passed_over look test error next is = ap (λ b. run look (refuse_if b error >>= next)) is
+-- ## The columns
 
-columns_settled : (look : Look) (parts : TableParts) (words : FkWords) (columns : List (List ℕ)) → not (length words.columns == length words.parent_columns) ≡ false → nat_lt 16 (length words.columns) ≡ false
-    → run look (some_columns words.columns) ≡ fine tt → run look (key_columns parts.columns words.columns) ≡ fine columns → run look (one_foreign_key parts words) ≡ run look (foreign_key_on parts words columns)
+abbrev came : {A : Type 0} → A → Found ErrorValue A
+came x = fine x
+
+abbrev by_columns : TableParts → FkWords → Walk ErrorValue TableParts
+by_columns parts words = key_columns parts.columns words.columns >>= foreign_key_on parts words
+
+-- three tests in front of a check
+tests_first : (look : Look) (a b c : Bool) (x y z : ErrorValue) (rest : Walk ErrorValue TableParts)
+    → run look (refuse_if a x >>= λ _. refuse_if b y >>= λ _. refuse_if c z >>= λ _. rest) ≡ go_on (run look (refuse_if a x >>= λ _. refuse_if b y >>= λ _. refuse_if c z)) (λ _. run look rest)
+tests_first look true b c x y z rest = refl
+tests_first look false true c x y z rest = refl
+tests_first look false false true x y z rest = refl
+tests_first look false false false x y z rest = refl
+
+allowed_first : (look : Look) (parts : TableParts) (words : FkWords) → run look (one_foreign_key parts words) ≡ go_on (run look (allowed_columns words)) (λ _. run look (by_columns parts words))
 unfolding one_foreign_key foreign_key_on with_foreign_key
-columns_settled look parts words columns even few some found =
-    passed_over look (not (length words.columns == length words.parent_columns)) (refusals.wrong_fk_def (name_in_text words.constraint)) _ even
-    ∙ passed_over look (nat_lt 16 (length words.columns)) too_many_key_parts _ few
-    ∙ run_fine look (some_columns words.columns) _ tt some
-    ∙ run_fine look (key_columns parts.columns words.columns) _ columns found
+allowed_first look parts words =
+    tests_first look (not (length words.columns == length words.parent_columns)) (nat_lt 16 (length words.columns)) (length words.columns == 0)
+    (refusals.wrong_fk_def (name_in_text words.constraint)) too_many_key_parts (key_column_does_not_exist []) (by_columns parts words)
 
-is_even : (n m : ℕ) → n ≡ m → not (n == m) ≡ false
-is_even n m is = grind (arith, nat_tests)
+pub allowed_stop : (stop : Stop) (look : Look) (parts : TableParts) (words : FkWords) → Stops stop (run look (allowed_columns words)) → Stops stop (run look (one_foreign_key parts words))
+allowed_stop stop look parts words stopped = stops_all stop (run look (allowed_columns words)) (λ _. run look (by_columns parts words)) _ stopped (sym (allowed_first look parts words))
 
-are_few : (n : ℕ) → n ≤ 16 → nat_lt 16 n ≡ false
-are_few n le = grind (arith, nat_tests)
+columns_next : (look : Look) (parts : TableParts) (words : FkWords) → run look (allowed_columns words) ≡ fine tt → run look (one_foreign_key parts words) ≡ go_on (run look (key_columns parts.columns words.columns)) (λ columns. run look (foreign_key_on parts words columns))
+columns_next look parts words allowed =
+    allowed_first look parts words ∙ ap (λ found. go_on found (λ _. run look (by_columns parts words))) allowed ∙ run_bind look (key_columns parts.columns words.columns) (foreign_key_on parts words)
 
--- where what follows the columns stops, all stops
-pub columns_stop : (stop : Stop) (look : Look) (parts : TableParts) (words : FkWords) (own : List ColumnDef) (names columns : List (List ℕ)) → own ≡ parts.columns → names ≡ words.columns → length words.columns ≡ length words.parent_columns → length words.columns ≤ 16
-    → run look (some_columns names) ≡ fine tt → run look (key_columns own names) ≡ fine columns → Stops stop (run look (foreign_key_on parts words columns)) → Stops stop (run look (one_foreign_key parts words))
-columns_stop stop look parts words own names columns of_table of_words even few some found stopped =
-    let none_missing : run look (some_columns words.columns) ≡ fine tt = ap (λ ns. run look (some_columns ns)) (sym of_words) ∙ some in
-    let all_found : run look (key_columns parts.columns words.columns) ≡ fine columns = ap (λ cs. run look (key_columns cs words.columns)) (sym of_table) ∙ ap (λ ns. run look (key_columns own ns)) (sym of_words) ∙ found in
-    subst (Stops stop) (sym (columns_settled look parts words columns (is_even (length words.columns) (length words.parent_columns) even) (are_few (length words.columns) few) none_missing all_found)) stopped
+pub columns_stop : (stop : Stop) (look : Look) (parts : TableParts) (words : FkWords) → run look (allowed_columns words) ≡ fine tt → Stops stop (run look (key_columns parts.columns words.columns)) → Stops stop (run look (one_foreign_key parts words))
+columns_stop stop look parts words allowed stopped = stops_all stop (run look (key_columns parts.columns words.columns)) (λ columns. run look (foreign_key_on parts words columns)) _ stopped (sym (columns_next look parts words allowed))
 
-name_settled : (look : Look) (parts : TableParts) (words : FkWords) (columns : List (List ℕ)) (name : List ℕ) → run look (constraint_name parts words.constraint) ≡ fine name
-    → run look (foreign_key_on parts words columns) ≡ run look (with_foreign_key parts words (key_named words parts.name name columns))
+pub columns_settled : (look : Look) (parts : TableParts) (words : FkWords) (columns : List (List ℕ)) → run look (allowed_columns words) ≡ fine tt → run look (key_columns parts.columns words.columns) ≡ fine columns → run look (one_foreign_key parts words) ≡ run look (foreign_key_on parts words columns)
+columns_settled look parts words columns allowed found = columns_next look parts words allowed ∙ ap (λ f. go_on f (λ cs. run look (foreign_key_on parts words cs))) found
+
+-- ## The name
+
+named_first : (look : Look) (parts : TableParts) (words : FkWords) (columns : List (List ℕ)) → run look (foreign_key_on parts words columns) ≡ go_on (run look (key_made parts words columns)) (λ key. run look (with_foreign_key parts words key))
 unfolding foreign_key_on
-name_settled look parts words columns name named = run_fine look (constraint_name parts words.constraint) _ name named
+named_first look parts words columns =
+    run_bind look (constraint_name parts words.constraint) _ ∙ at (run look (constraint_name parts words.constraint))
+    ∙ ap (λ found. go_on found (λ key. run look (with_foreign_key parts words key))) (sym (run_bind look (constraint_name parts words.constraint) (λ name. done (key_named words parts.name name columns))))
+  where
+    at : (found : Found ErrorValue (List ℕ)) → go_on found (λ name. run look (with_foreign_key parts words (key_named words parts.name name columns))) ≡ go_on (go_on found (λ name. came (key_named words parts.name name columns))) (λ key. run look (with_foreign_key parts words key))
+    at (fine name) = refl
+    at (refused e) = refl
+    at (needs key) = refl
 
--- where what follows the name stops, all stops
-pub name_stop : (stop : Stop) (look : Look) (parts : TableParts) (words : FkWords) (columns : List (List ℕ)) (name : List ℕ) (key : ForeignKeyDef) → run look (constraint_name parts words.constraint) ≡ fine name → key ≡ key_named words parts.name name columns
-    → Stops stop (run look (with_foreign_key parts words key)) → Stops stop (run look (foreign_key_on parts words columns))
-name_stop stop look parts words columns name key named is stopped =
-    subst (Stops stop) (ap (λ k. run look (with_foreign_key parts words k)) is ∙ sym (name_settled look parts words columns name named)) stopped
+pub name_stop : (stop : Stop) (look : Look) (parts : TableParts) (words : FkWords) (columns : List (List ℕ)) → Stops stop (run look (key_made parts words columns)) → Stops stop (run look (foreign_key_on parts words columns))
+name_stop stop look parts words columns stopped = stops_all stop (run look (key_made parts words columns)) (λ key. run look (with_foreign_key parts words key)) _ stopped (sym (named_first look parts words columns))
+
+pub name_settled : (look : Look) (parts : TableParts) (words : FkWords) (columns : List (List ℕ)) (key : ForeignKeyDef) → run look (key_made parts words columns) ≡ fine key → run look (foreign_key_on parts words columns) ≡ run look (with_foreign_key parts words key)
+name_settled look parts words columns key made = named_first look parts words columns ∙ ap (λ found. go_on found (λ k. run look (with_foreign_key parts words k))) made
+
+pub same_columns : (look : Look) (parts : TableParts) (words : FkWords) (own : List ColumnDef) (names : List (List ℕ)) → own ≡ parts.columns → names ≡ words.columns → run look (key_columns own names) ≡ run look (key_columns parts.columns words.columns)
+same_columns look parts words own names same_own same_names = ap (λ (cs : List ColumnDef). run look (key_columns cs names)) same_own ∙ ap (λ ns. run look (key_columns parts.columns ns)) same_names
+
+pub unnamed_stop : (stop : Stop) (look : Look) (parts : TableParts) (words : FkWords) (columns : List (List ℕ)) → Stops stop (run look (constraint_name parts words.constraint)) → Stops stop (run look (key_made parts words columns))
+unnamed_stop stop look parts words columns stopped =
+    stops_all stop (run look (constraint_name parts words.constraint)) (λ name. fine (key_named words parts.name name columns)) _ stopped (sym (run_bind look (constraint_name parts words.constraint) (λ name. done (key_named words parts.name name columns))))
+
+pub named_fine : (look : Look) (parts : TableParts) (words : FkWords) (columns : List (List ℕ)) (name : List ℕ) (key : ForeignKeyDef) → run look (constraint_name parts words.constraint) ≡ fine name → key ≡ key_named words parts.name name columns → run look (key_made parts words columns) ≡ fine key
+named_fine look parts words columns name key named is =
+    run_fine look (constraint_name parts words.constraint) (λ name. done (key_named words parts.name name columns)) name named ∙ ap (λ k. came k) (sym is)
+
+-- where what follows stops, all stops
+pub rest_stop : (stop : Stop) (found total : Found ErrorValue TableParts) → total ≡ found → Stops stop found → Stops stop total
+rest_stop stop found total is stopped = subst (Stops stop) (sym is) stopped

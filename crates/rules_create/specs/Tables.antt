@@ -198,7 +198,7 @@ one_foreign_key parts words = do
   columns ← key_columns parts.columns words.columns
   name ← constraint_name parts words.constraint
   indexed ← with_key_index parts words columns
-  key ← foreign_key_of indexed (key_named words parts.name name columns)
+  key ← foreign_key_of indexed words.columns (key_named words parts.name name columns)
   done (record indexed { foreign_keys = put_in_order key indexed.foreign_keys })
 
 -- ## The whole table

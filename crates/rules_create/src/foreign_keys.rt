@@ -1,37 +1,58 @@
 // The foreign keys that a statement defines (MySQL 8.0 Reference Manual, 13.1.20.5).
-ghost use Rattle.std.specs.Prelude.{◌≡◌, IfOk};
+ghost use Rattle.std.specs.Prelude.{◌≡◌, IfOk, OnOk};
 ghost use Rattle.std.specs.List.{flat_map};
 ghost use Rattle.dd_catalog.specs.WalkLaws.{Look};
 ghost use Rattle.dd_catalog.specs.Walks.{run, over};
 ghost use Rattle.dd_catalog.specs.Follow.{Follows, sights};
-ghost use Rattle.rules_elements.specs.Keys.{first_given, key_of};
+ghost use Rattle.rules_elements.specs.ForeignKeys.{foreign_key_of};
+ghost use Rattle.rules_elements.specs.Keys.{first_given};
 ghost use Rattle.rules_create.specs.Tables.{foreign_key_in, key_for, with_key_index, name_in_text, schema_or, parent_named, key_named, one_foreign_key};
-ghost use Rattle.rules_create.specs.Made.{over_each, foreign_key_on, with_foreign_key};
+ghost use Rattle.rules_create.specs.Made.{over_each, allowed_columns, key_made, foreign_key_on, with_foreign_key};
+ghost use Rattle.rules_create.specs.Drafts.{IsDraft, IsLinkedDraft, whole};
 
-use crate::constraints::put_in_order;
+use crate::drafts::{Draft, add_index, key_checked};
 use crate::indexes::has_index_on;
-use crate::keys::{some_columns, with_index};
+use crate::keys::some_columns;
 use crate::numbers::constraint_name;
+use crate::ordered_keys::OrderedKeys;
 use dd_catalog::{Lookup, Stop};
-use dd_definitions::{ForeignKeyDef, IndexDef, TableParts};
+use dd_definitions::{ForeignKeyDef, TableParts};
 use dd_names::{List, Name, ObjName, TryCopy, both};
-use rules_elements::{check_fk, check_key, key_columns};
+use rules_elements::{check_fk, key_columns};
 use rules_named::first_given;
 use sql_ast::Element;
 use sql_types::{FkWords, IndexClass, KeyWords, ObjRef};
 use std::alloc::{AllocError, Global};
 
-/// The table with the foreign keys, one after another.
+/// The table with the foreign keys.
 pub(crate) fn add_foreign_keys<L: Lookup>(
     alloc: Global,
-    parts: &mut TableParts,
+    draft: &mut Draft,
     elements: &[Element],
     look: &L,
 ) -> Result<(), Stop>
-    ensures { Follows (λ _. parts.new) result (run (sights (L.known look.now)) (over one_foreign_key parts.old (flat_map foreign_key_in elements.now))) }
+    requires { IsDraft draft.old }
+    ensures { Follows (λ _. draft.new.parts) result (run (sights (L.known look.now)) (over one_foreign_key draft.old.parts (flat_map foreign_key_in elements.now))) }
+{
+    let mut keys = OrderedKeys::none(alloc, &draft.parts.name.name)?;
+    each_foreign_key(alloc, draft, &mut keys, elements, look)?;
+    draft.parts.foreign_keys = keys.into_list(alloc)?;
+    Ok(())
+}
+
+/// The foreign keys, one after another.
+fn each_foreign_key<L: Lookup>(
+    alloc: Global,
+    draft: &mut Draft,
+    keys: &mut OrderedKeys,
+    elements: &[Element],
+    look: &L,
+) -> Result<(), Stop>
+    requires { IsLinkedDraft draft.old keys.old }
+    ensures { Follows (λ _. whole draft.new keys.new) result (run (sights (L.known look.now)) (over one_foreign_key (whole draft.old keys.old) (flat_map foreign_key_in elements.now))) }
 {
     'elements: for element in elements {
-        foreign_key_if(alloc, parts, element, look)?;
+        foreign_key_if(alloc, draft, keys, element, look)?;
     }
     Ok(())
 }
@@ -40,28 +61,48 @@ pub(crate) fn add_foreign_keys<L: Lookup>(
 #[tactic(auto, using(crate::proofs::Flat::over_one))]
 fn foreign_key_if<L: Lookup>(
     alloc: Global,
-    parts: &mut TableParts,
+    draft: &mut Draft,
+    keys: &mut OrderedKeys,
     element: &Element,
     look: &L,
 ) -> Result<(), Stop>
-    ensures { Follows (λ _. parts.new) result (run (sights (L.known look.now)) (over_each one_foreign_key foreign_key_in parts.old element.now)) }
+    requires { IsLinkedDraft draft.old keys.old }
+    ensures exact { Follows (λ _. whole draft.new keys.new) result (run (sights (L.known look.now)) (over_each one_foreign_key foreign_key_in (whole draft.old keys.old) element.now)) }
+    ensures linked { OnOk result (IsLinkedDraft draft.new keys.new) }
 {
     match element {
-        Element::ForeignKey(words) => one_foreign_key(alloc, parts, words, look),
+        Element::ForeignKey(words) => one_foreign_key(alloc, draft, keys, words, look),
         _ => Ok(()),
     }
 }
 
 /// The table with one foreign key more. Other numbers of columns: 1239. More than 16: 1070. Column by column, one that isn't in
 /// the table, 1072, or stands twice, 1060. Then its name, its index, its parent and its columns.
-#[tactic(auto, using(dd_catalog::specs::WalkLaws::run_bind), unfolding(crate::specs::Tables::one_foreign_key, crate::specs::Made::foreign_key_on, crate::specs::Made::with_foreign_key))]
 fn one_foreign_key<L: Lookup>(
     alloc: Global,
-    parts: &mut TableParts,
+    draft: &mut Draft,
+    keys: &mut OrderedKeys,
     words: &FkWords,
     look: &L,
 ) -> Result<(), Stop>
-    ensures { Follows (λ _. parts.new) result (run (sights (L.known look.now)) (one_foreign_key parts.old words.now)) }
+    requires { IsLinkedDraft draft.old keys.old }
+    ensures exact { Follows (λ _. whole draft.new keys.new) result (run (sights (L.known look.now)) (one_foreign_key (whole draft.old keys.old) words.now)) }
+    ensures linked { OnOk result (IsLinkedDraft draft.new keys.new) }
+{
+    allow_columns(alloc, words)?;
+    let columns = key_columns(
+        alloc,
+        draft.parts.columns.as_slice(),
+        words.columns.as_slice(),
+    )?;
+    foreign_key_on(alloc, draft, keys, words, columns, look)?;
+    Ok(())
+}
+
+/// Refuses other numbers of columns than of the parent's, more than 16, and none.
+#[tactic(auto, using(dd_catalog::specs::WalkLaws::run_bind))]
+fn allow_columns(alloc: Global, words: &FkWords) -> Result<(), Stop>
+    ensures { (look : Look) → Follows (λ _. tt) result (run look (allowed_columns words.now)) }
 {
     let names = words.columns.as_slice();
     if names.len() != words.parent_columns.len() {
@@ -70,44 +111,72 @@ fn one_foreign_key<L: Lookup>(
     if names.len() > 16 {
         return Err(rules_refusals::too_many_key_parts(alloc));
     }
-    some_columns(alloc, names)?;
-    let columns = key_columns(alloc, parts.columns.as_slice(), names)?;
-    foreign_key_on(alloc, parts, words, columns, look)?;
-    Ok(())
+    some_columns(alloc, names)
 }
 
 /// The table with a foreign key on these columns.
-#[tactic(auto, using(dd_catalog::specs::WalkLaws::run_bind), unfolding(crate::specs::Made::foreign_key_on))]
 fn foreign_key_on<L: Lookup>(
     alloc: Global,
-    parts: &mut TableParts,
+    draft: &mut Draft,
+    keys: &mut OrderedKeys,
     words: &FkWords,
     columns: List<Name>,
     look: &L,
 ) -> Result<(), Stop>
-    ensures { Follows (λ _. parts.new) result (run (sights (L.known look.now)) (foreign_key_on parts.old words.now columns)) }
+    requires { IsLinkedDraft draft.old keys.old }
+    ensures exact { Follows (λ _. whole draft.new keys.new) result (run (sights (L.known look.now)) (foreign_key_on (whole draft.old keys.old) words.now columns)) }
+    ensures linked { OnOk result (IsLinkedDraft draft.new keys.new) }
 {
-    let name = constraint_name(alloc, parts, &words.constraint)?;
-    let key = key_named(words, &parts.name, name, columns)?;
-    with_foreign_key(alloc, parts, words, &key, look)?;
+    let key = key_made(alloc, draft, keys, words, columns)?;
+    with_foreign_key(alloc, draft, keys, words, &key, look)?;
     Ok(())
 }
 
+/// The foreign key on these columns with its name.
+fn key_made(
+    alloc: Global,
+    draft: &Draft,
+    keys: &OrderedKeys,
+    words: &FkWords,
+    columns: List<Name>,
+) -> Result<ForeignKeyDef, Stop>
+    requires { IsLinkedDraft draft.now keys.now }
+    ensures { (look : Look) → Follows (λ key. key) result (run look (key_made (whole draft.now keys.now) words.now columns)) }
+{
+    let name = constraint_name(alloc, keys, &words.constraint)?;
+    Ok(key_named(words, &draft.parts.name, name, columns)?)
+}
+
 /// The table with this foreign key, as its parent spells it, and with an index for it.
-#[tactic(auto, using(dd_catalog::specs::WalkLaws::run_bind), unfolding(crate::specs::Made::with_foreign_key))]
 fn with_foreign_key<L: Lookup>(
     alloc: Global,
-    parts: &mut TableParts,
+    draft: &mut Draft,
+    keys: &mut OrderedKeys,
     words: &FkWords,
     key: &ForeignKeyDef,
     look: &L,
 ) -> Result<(), Stop>
-    ensures { Follows (λ _. parts.new) result (run (sights (L.known look.now)) (with_foreign_key parts.old words.now key.now)) }
+    requires { IsLinkedDraft draft.old keys.old }
+    ensures exact { Follows (λ _. whole draft.new keys.new) result (run (sights (L.known look.now)) (with_foreign_key (whole draft.old keys.old) words.now key.now)) }
+    ensures linked { OnOk result (IsLinkedDraft draft.new keys.new) }
 {
-    with_key_index(alloc, parts, words, &key.columns)?;
-    let key = check_fk(alloc, parts, key, look)?;
-    put_in_order(alloc, key, &mut parts.foreign_keys)?;
+    with_key_index(alloc, draft, words, &key.columns)?;
+    let key = beside_parent(alloc, &draft.parts, words, key, look)?;
+    keys.add(alloc, key)?;
     Ok(())
+}
+
+/// The foreign key beside its parent; a fault names its columns as the statement writes them.
+fn beside_parent<L: Lookup>(
+    alloc: Global,
+    parts: &TableParts,
+    words: &FkWords,
+    key: &ForeignKeyDef,
+    look: &L,
+) -> Result<ForeignKeyDef, Stop>
+    ensures { Follows (λ found. found) result (run (sights (L.known look.now)) (foreign_key_of parts.now words.now.columns key.now)) }
+{
+    check_fk(alloc, parts, words.columns.as_slice(), key, look)
 }
 
 /// How a refusal names the foreign key.
@@ -124,31 +193,22 @@ fn name_in_text(constraint: &Option<Name>) -> &str
 #[tactic(auto, using(dd_catalog::specs::WalkLaws::run_bind), unfolding(crate::specs::Tables::with_key_index))]
 fn with_key_index(
     alloc: Global,
-    parts: &mut TableParts,
+    draft: &mut Draft,
     words: &FkWords,
     columns: &List<Name>,
 ) -> Result<(), Stop>
-    ensures { (look : Look) → Follows (λ _. parts.new) result (run look (with_key_index parts.old words.now columns.now)) }
+    requires { IsDraft draft.old }
+    ensures exact { (look : Look) → Follows (λ _. draft.new.parts) result (run look (with_key_index draft.old.parts words.now columns.now)) }
+    ensures draft { OnOk result (IsDraft draft.new) }
+    ensures name { OnOk result (draft.new.parts.name ≡ draft.old.parts.name) }
 {
-    if has_index_on(parts.indexes.as_slice(), columns.as_slice()) {
+    if has_index_on(draft.parts.indexes.as_slice(), columns.as_slice()) {
         return Ok(());
     }
-    let index = key_index(alloc, parts, words, columns)?;
-    with_index(alloc, parts, index)?;
-    Ok(())
-}
-
-/// The plain index on the columns of a foreign key.
-fn key_index(
-    alloc: Global,
-    parts: &TableParts,
-    words: &FkWords,
-    columns: &List<Name>,
-) -> Result<IndexDef, Stop>
-    ensures { (look : Look) → Follows (λ index. index) result (run look (key_of parts.now (key_for words.now columns.now))) }
-{
     let key = key_for(words, columns)?;
-    check_key(alloc, parts, &key)
+    let index = key_checked(alloc, draft, &key)?;
+    add_index(alloc, draft, index)?;
+    Ok(())
 }
 
 /// A plain key on the columns of a foreign key.

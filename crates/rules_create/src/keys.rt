@@ -1,62 +1,67 @@
 // The keys that a statement defines (MySQL 8.0 Reference Manual, 13.1.20).
-ghost use Rattle.std.specs.Prelude.{◌≡◌, ◌||◌, map, IfOk};
+ghost use Rattle.std.specs.Prelude.{◌≡◌, ◌||◌, map, IfOk, OnOk};
 ghost use Rattle.std.specs.List.{flat_map, list_any};
 ghost use Rattle.std.specs.Str.{bytes_eq};
 ghost use Rattle.dd_catalog.specs.WalkLaws.{Look};
 ghost use Rattle.dd_catalog.specs.Walks.{run, over};
 ghost use Rattle.dd_catalog.specs.Follow.{Follows};
 ghost use Rattle.rules_create.specs.Tables.{column_in, key_in, all_keys, is_null, is_true, is_null_written, never_null, with_index, some_columns, one_key};
-ghost use Rattle.rules_create.specs.Made.{over_each, own_keys_in, is_null_of};
+ghost use Rattle.rules_create.specs.Made.{over_each, own_keys_in, is_null_of, added_index};
+ghost use Rattle.rules_create.specs.Drafts.{IsDraft};
 
+use crate::drafts::{Draft, add_index, key_checked};
 use crate::elements::keys_of_columns;
 use crate::indexes::is_primary;
 use dd_catalog::Stop;
 use dd_definitions::{ColumnDef, IndexDef, TableParts};
 use dd_names::{List, Name, TryCopy};
-use rules_elements::check_key;
 use sql_ast::Element;
 use sql_types::{ColumnWords, KeyWords, Literal};
 use std::alloc::{AllocError, Global};
 
 /// The table with all keys behind its indexes: those that columns say, and then the others.
 #[tactic(auto, using(crate::proofs::Flat::over_append, crate::proofs::Flat::own_keys_flat))]
-pub(crate) fn add_keys(
-    alloc: Global,
-    parts: &mut TableParts,
-    elements: &[Element],
-) -> Result<(), Stop>
-    ensures { (look : Look) → Follows (λ _. parts.new) result (run look (over (one_key (flat_map column_in elements.now)) parts.old (all_keys elements.now))) }
+pub(crate) fn add_keys(alloc: Global, draft: &mut Draft, elements: &[Element]) -> Result<(), Stop>
+    requires { IsDraft draft.old }
+    ensures exact { (look : Look) → Follows (λ _. draft.new.parts) result (run look (over (one_key (flat_map column_in elements.now)) draft.old.parts (all_keys elements.now))) }
+    ensures draft { OnOk result (IsDraft draft.new) }
 {
-    add_own_keys(alloc, parts, elements)?;
-    add_written_keys(alloc, parts, elements)
+    add_own_keys(alloc, draft, elements)?;
+    add_written_keys(alloc, draft, elements)
 }
 
-fn add_own_keys(alloc: Global, parts: &mut TableParts, elements: &[Element]) -> Result<(), Stop>
-    ensures { (look : Look) → Follows (λ _. parts.new) result (run look (over (one_key (flat_map column_in elements.now)) parts.old (flat_map own_keys_in elements.now))) }
+fn add_own_keys(alloc: Global, draft: &mut Draft, elements: &[Element]) -> Result<(), Stop>
+    requires { IsDraft draft.old }
+    ensures exact { (look : Look) → Follows (λ _. draft.new.parts) result (run look (over (one_key (flat_map column_in elements.now)) draft.old.parts (flat_map own_keys_in elements.now))) }
+    ensures draft { OnOk result (IsDraft draft.new) }
 {
     let keys = keys_of_columns(alloc, elements)?;
-    each_key(alloc, parts, elements, keys.as_slice())
+    each_key(alloc, draft, elements, keys.as_slice())
 }
 
 fn each_key(
     alloc: Global,
-    parts: &mut TableParts,
+    draft: &mut Draft,
     elements: &[Element],
     keys: &[KeyWords],
 ) -> Result<(), Stop>
-    ensures { (look : Look) → Follows (λ _. parts.new) result (run look (over (one_key (flat_map column_in elements.now)) parts.old keys.now)) }
+    requires { IsDraft draft.old }
+    ensures exact { (look : Look) → Follows (λ _. draft.new.parts) result (run look (over (one_key (flat_map column_in elements.now)) draft.old.parts keys.now)) }
+    ensures draft { OnOk result (IsDraft draft.new) }
 {
     'keys: for key in keys {
-        one_key(alloc, parts, elements, key)?;
+        one_key(alloc, draft, elements, key)?;
     }
     Ok(())
 }
 
-fn add_written_keys(alloc: Global, parts: &mut TableParts, elements: &[Element]) -> Result<(), Stop>
-    ensures { (look : Look) → Follows (λ _. parts.new) result (run look (over (one_key (flat_map column_in elements.now)) parts.old (flat_map key_in elements.now))) }
+fn add_written_keys(alloc: Global, draft: &mut Draft, elements: &[Element]) -> Result<(), Stop>
+    requires { IsDraft draft.old }
+    ensures exact { (look : Look) → Follows (λ _. draft.new.parts) result (run look (over (one_key (flat_map column_in elements.now)) draft.old.parts (flat_map key_in elements.now))) }
+    ensures draft { OnOk result (IsDraft draft.new) }
 {
     'elements: for element in elements {
-        key_if(alloc, parts, elements, element)?;
+        key_if(alloc, draft, elements, element)?;
     }
     Ok(())
 }
@@ -65,14 +70,16 @@ fn add_written_keys(alloc: Global, parts: &mut TableParts, elements: &[Element])
 #[tactic(auto, using(crate::proofs::Flat::over_one))]
 fn key_if(
     alloc: Global,
-    parts: &mut TableParts,
+    draft: &mut Draft,
     elements: &[Element],
     element: &Element,
 ) -> Result<(), Stop>
-    ensures { (look : Look) → Follows (λ _. parts.new) result (run look (over_each (one_key (flat_map column_in elements.now)) key_in parts.old element.now)) }
+    requires { IsDraft draft.old }
+    ensures exact { (look : Look) → Follows (λ _. draft.new.parts) result (run look (over_each (one_key (flat_map column_in elements.now)) key_in draft.old.parts element.now)) }
+    ensures draft { OnOk result (IsDraft draft.new) }
 {
     match element {
-        Element::Key(words) => one_key(alloc, parts, elements, words),
+        Element::Key(words) => one_key(alloc, draft, elements, words),
         _ => Ok(()),
     }
 }
@@ -81,18 +88,36 @@ fn key_if(
 #[tactic(auto, using(dd_catalog::specs::WalkLaws::run_bind), unfolding(crate::specs::Tables::one_key))]
 fn one_key(
     alloc: Global,
-    parts: &mut TableParts,
+    draft: &mut Draft,
     elements: &[Element],
     words: &KeyWords,
 ) -> Result<(), Stop>
-    ensures { (look : Look) → Follows (λ _. parts.new) result (run look (one_key (flat_map column_in elements.now) parts.old words.now)) }
+    requires { IsDraft draft.old }
+    ensures exact { (look : Look) → Follows (λ _. draft.new.parts) result (run look (one_key (flat_map column_in elements.now) draft.old.parts words.now)) }
+    ensures draft { OnOk result (IsDraft draft.new) }
 {
     some_columns(alloc, words.columns.as_slice())?;
-    let index = check_key(alloc, parts, words)?;
+    let index = key_checked(alloc, draft, words)?;
+    add_key(alloc, draft, elements, index)?;
+    Ok(())
+}
+
+/// The table with the index, unless NULL is written for a column of a primary key.
+#[tactic(auto, using(dd_catalog::specs::WalkLaws::run_bind))]
+fn add_key(
+    alloc: Global,
+    draft: &mut Draft,
+    elements: &[Element],
+    index: IndexDef,
+) -> Result<(), Stop>
+    requires { IsDraft draft.old }
+    ensures exact { (look : Look) → Follows (λ _. draft.new.parts) result (run look (added_index (flat_map column_in elements.now) draft.old.parts index)) }
+    ensures draft { OnOk result (IsDraft draft.new) }
+{
     if is_primary(&index) && is_any_null_written(elements, index.columns.as_slice()) {
         return Err(rules_refusals::primary_cant_have_null(alloc));
     }
-    with_index(alloc, parts, index)?;
+    add_index(alloc, draft, index)?;
     Ok(())
 }
 

@@ -3,12 +3,14 @@
 
 mod columns;
 mod constraints;
+mod drafts;
 mod elements;
 mod foreign_keys;
 mod indexes;
 mod keys;
 mod laws;
 mod numbers;
+mod ordered_keys;
 mod tables;
 
 pub use constraints::{behind, constraint_front, put_in_order};

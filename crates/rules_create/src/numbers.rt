@@ -5,14 +5,15 @@ ghost use Rattle.std.specs.Option.{option_copied};
 ghost use Rattle.std.specs.Char.{is_ascii_digit};
 ghost use Rattle.std.specs.Fmt.{decimal};
 ghost use Rattle.dd_definitions.specs.Defaults.{value_behind, begins_with_zero};
+ghost use Rattle.dd_definitions.specs.declared.parts.TableParts.{TableParts as Parts};
 ghost use Rattle.dd_catalog.specs.WalkLaws.{Look};
 ghost use Rattle.dd_catalog.specs.Walks.{run};
 ghost use Rattle.dd_catalog.specs.Follow.{Follows};
-ghost use Rattle.rules_create.specs.Tables.{constraint_front, is_number, number_of, greatest_number, constraint_name};
+ghost use Rattle.rules_create.specs.Tables.{is_number, number_of, constraint_name};
+ghost use Rattle.rules_create.specs.Drafts.{keys_in, AreOrdered, with_keys};
 
-use crate::constraints::{behind, constraint_front};
+use crate::ordered_keys::OrderedKeys;
 use dd_catalog::Stop;
-use dd_definitions::{ForeignKeyDef, TableParts};
 use dd_names::{Name, Text, TryCopy};
 use rules_elements::made_name;
 use std::alloc::{AllocError, Global};
@@ -21,53 +22,35 @@ use std::alloc::{AllocError, Global};
 #[tactic(auto, unfolding(crate::specs::Tables::constraint_name))]
 pub(crate) fn constraint_name(
     alloc: Global,
-    parts: &TableParts,
+    keys: &OrderedKeys,
     given: &Option<Name>,
 ) -> Result<Name, Stop>
-    ensures { (look : Look) → Follows (λ name. name) result (run look (constraint_name parts.now given.now)) }
+    requires { keys.now.greatest < 10 ^ 38 }
+    ensures { (look : Look) (parts : Parts) → AreOrdered keys.now parts.name.name → Follows (λ name. name) result (run look (constraint_name (with_keys parts (keys_in keys.now)) given.now)) }
 {
     match given {
         Some(name) => Ok(name.copy()?),
         None => {
-            let made = next_name(alloc, &parts.name.name, parts.foreign_keys.as_slice())?;
+            let made = keys.next_name(alloc)?;
             made_name(alloc, made.as_str())
         }
     }
 }
 
-fn next_name(alloc: Global, table: &Name, keys: &[ForeignKeyDef]) -> Result<Text, AllocError>
-    ensures { IfOk result (λ name. name ≡ constraint_front table.now ++ decimal (greatest_number (constraint_front table.now) keys.now + 1)) }
-{
-    let front = constraint_front(alloc, table)?;
-    let number = greatest_number(front.as_str(), keys) + 1;
-    with_number(alloc, front.as_str(), number)
-}
-
-fn with_number(alloc: Global, front: &str, number: u128) -> Result<Text, AllocError>
+pub(crate) fn with_number(alloc: Global, front: &str, number: u128) -> Result<Text, AllocError>
     ensures { IfOk result (λ name. name ≡ front.now ++ decimal number) }
 {
     Ok(Text::from_string(format!(in alloc; "{front}{number}")?))
 }
 
-/// The greatest number that the names have behind the front.
-fn greatest_number(front: &str, keys: &[ForeignKeyDef]) -> u128
-    ensures value { result ≡ greatest_number front.now keys.now }
-    ensures small { result < 10 ^ 38 }
-{
-    let mut greatest = 0u128;
-    'keys: for key in keys {
-        greatest = greater(greatest, number_of(behind(front, key.name.as_str())));
-    }
-    greatest
-}
-
-fn greater(a: u128, b: u128) -> u128
+pub(crate) fn greater(a: u128, b: u128) -> u128
     ensures { result ≡ max a b }
 {
     if a < b { b } else { a }
 }
 
-fn number_of(text: Option<&str>) -> u128
+/// The number behind the front, and 0 where there is none.
+pub(crate) fn number_of(text: Option<&str>) -> u128
     ensures value { result ≡ number_of (option_copied text.entry) }
     ensures small { result < 10 ^ 38 }
 {

@@ -11,16 +11,18 @@ ghost use Rattle.dd_catalog.specs.Follow.{Follows, sights};
 ghost use Rattle.rules_refusals.specs.Refusals.{table_exists};
 ghost use Rattle.rules_outcome.specs.Decided.{choice_of, Decides, AreBefore, HaveIds};
 ghost use Rattle.rules_named.specs.Named.{unless};
-ghost use Rattle.rules_create.specs.Tables.{within_limits, of_columns, table_of, table_made, create_table};
-ghost use Rattle.rules_create.specs.Made.{new_table, ordered, filled};
+ghost use Rattle.rules_create.specs.Tables.{within_limits, table_of, table_made, create_table};
+ghost use Rattle.rules_create.specs.Made.{new_table, columns_made, ordered, filled};
+ghost use Rattle.rules_create.specs.Drafts.{IsDraft};
 
 use crate::columns::all_columns;
+use crate::drafts::{Draft, draft_of};
 use crate::foreign_keys::add_foreign_keys;
 use crate::indexes::{are_autos_led, by_class, secondary_count};
 use crate::keys::add_keys;
 use crate::laws::made_tables_are_formed;
-use dd_catalog::{Lookup, Object, Stop, look_at};
-use dd_definitions::{ColumnDef, TableDef, TableParts};
+use dd_catalog::{Lookup, Object, Stop, object_at};
+use dd_definitions::{TableDef, TableParts};
 use dd_names::{List, ObjName, ObjectKey, TryCopy};
 use rules_named::{Placed, one_placed};
 use rules_outcome::{After, Decided, Edit, Edits};
@@ -43,19 +45,10 @@ pub fn create_table<L: Lookup>(
     ensures ids { IfOk result (λ d. HaveIds (L.known look.now) d) }
 {
     let table = one_placed(alloc, &session.current, table, look)?;
-    match object_at(&table.name, look)? {
+    match object_at(look, &table.name)? {
         Object::Absent => new_table(alloc, session, table, elements, look),
         _ => present(alloc, if_not_exists, &table.name),
     }
-}
-
-/// What stands at an object's key.
-fn object_at<'a, L: Lookup>(name: &ObjName, look: &'a L) -> Result<&'a Object, Stop>
-    ensures seen { Follows (λ object. sight object.now) result (run (sights (L.known look.now)) (look_at (keys.Object name.now))) }
-    ensures known { IfOk result (λ object. L.known look.now (keys.Object name.now) ≡ Some object.now) }
-{
-    let key = ObjectKey::Object(name.copy()?);
-    look_at(look, &key)
 }
 
 /// The statement where something stands at the table's name.
@@ -130,7 +123,6 @@ fn table_defined<L: Lookup>(
 }
 
 /// What the elements make: columns, keys, and then foreign keys.
-#[tactic(auto, using(dd_catalog::specs::WalkLaws::run_bind), unfolding(crate::specs::Tables::table_of, crate::specs::Made::filled))]
 fn table_of<L: Lookup>(
     alloc: Global,
     table: &ObjName,
@@ -139,26 +131,37 @@ fn table_of<L: Lookup>(
 ) -> Result<TableParts, Stop>
     ensures { Follows (λ parts. parts) result (run (sights (L.known look.now)) (table_of table.now elements.now)) }
 {
-    let columns = all_columns(alloc, elements)?;
-    let mut parts = of_columns(alloc, table.copy()?, columns);
-    fill(alloc, &mut parts, elements, look)?;
+    let mut draft = columns_made(alloc, table, elements)?;
+    fill(alloc, &mut draft, elements, look)?;
+    let Draft { parts, names: _ } = draft;
     Ok(parts)
+}
+
+/// The table with its columns alone.
+#[tactic(auto, using(dd_catalog::specs::WalkLaws::run_bind))]
+fn columns_made(alloc: Global, table: &ObjName, elements: &[Element]) -> Result<Draft, Stop>
+    ensures parts { (look : Look) → Follows (λ draft. draft.parts) result (run look (columns_made table.now elements.now)) }
+    ensures draft { IfOk result (λ draft. IsDraft draft) }
+{
+    let columns = all_columns(alloc, elements)?;
+    Ok(draft_of(alloc, table.copy()?, columns))
 }
 
 /// The table with its keys and its foreign keys, within the limits, and the indexes by their classes.
 #[tactic(auto, using(dd_catalog::specs::WalkLaws::run_bind), unfolding(crate::specs::Made::filled))]
 fn fill<L: Lookup>(
     alloc: Global,
-    parts: &mut TableParts,
+    draft: &mut Draft,
     elements: &[Element],
     look: &L,
 ) -> Result<(), Stop>
-    ensures { Follows (λ _. parts.new) result (run (sights (L.known look.now)) (filled elements.now parts.old)) }
+    requires { IsDraft draft.old }
+    ensures { Follows (λ _. draft.new.parts) result (run (sights (L.known look.now)) (filled elements.now draft.old.parts)) }
 {
-    add_keys(alloc, parts, elements)?;
-    add_foreign_keys(alloc, parts, elements, look)?;
-    within_limits(alloc, parts)?;
-    order_indexes(alloc, parts)?;
+    add_keys(alloc, draft, elements)?;
+    add_foreign_keys(alloc, draft, elements, look)?;
+    within_limits(alloc, &draft.parts)?;
+    order_indexes(alloc, &mut draft.parts)?;
     Ok(())
 }
 
@@ -169,17 +172,6 @@ fn order_indexes(alloc: Global, parts: &mut TableParts) -> Result<(), AllocError
     let indexes = by_class(alloc, parts.columns.as_slice(), parts.indexes.as_slice())?;
     parts.indexes = indexes;
     Ok(())
-}
-
-fn of_columns(alloc: Global, table: ObjName, columns: List<ColumnDef>) -> TableParts
-    ensures { result ≡ of_columns table columns }
-{
-    TableParts {
-        name: table,
-        columns,
-        indexes: List::new(alloc),
-        foreign_keys: List::new(alloc),
-    }
 }
 
 /// More than 64 secondary indexes: 1069. An AUTO_INCREMENT column that isn't the only one or leads no index: 1075. More than

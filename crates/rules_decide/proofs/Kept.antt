@@ -34,6 +34,8 @@ use Rattle.rules_valid.specs.Keeps.{KeepsValid, MakesOneSpace}
 use Rattle.rules_valid.proofs.Readings.{use_keeps, set_keeps, databases_keep, tables_keep}
 use Rattle.rules_valid.proofs.Schemas.{create_keeps}
 use Rattle.rules_valid.proofs.Drops.{drop_database_keeps, drop_table_keeps}
+use Rattle.rules_valid.proofs.Emptied.{truncate_keeps, truncate_makes}
+use Rattle.rules_valid.proofs.Likes.{create_like_keeps, create_like_makes}
 use Rattle.rules_valid.proofs.Tables.{create_table_keeps}
 use Rattle.dd_names.specs.declared.object_name.ObjName.{ObjName}
 use Rattle.sql_types.specs.declared.words.ObjRef.{ObjRef}
@@ -68,16 +70,17 @@ schema_kept : (session : SessionState) (statement : SchemaStatement) → schema_
 schema_kept session (schemas.Create if_not_exists name) said = create_keeps session if_not_exists name said
 schema_kept session (schemas.Drop if_exists name) said = drop_database_keeps session if_exists name
 
-body_kept : (session : SessionState) (if_not_exists : Bool) (table : ObjRef) (body : TableBody) (check : Walk ErrorValue Choice) → session_is_named session ≡ true → is_object_named table ≡ true → body_says_names body ≡ true → body_outcome session if_not_exists table body ≡ Some check → KeepsValid check
-body_kept session if_not_exists table (bodies.Like source) check current named said e = cc
-body_kept session if_not_exists table (bodies.Elements elements) check current named said e = same_check (create_table_keeps session if_not_exists table elements current named said) e
+body_kept : (session : SessionState) (if_not_exists : Bool) (table : ObjRef) (body : TableBody) → session_is_named session ≡ true → is_object_named table ≡ true → body_says_names body ≡ true → KeepsValid (body_outcome session if_not_exists table body)
+body_kept session if_not_exists table (bodies.Like source) current named said = create_like_keeps session if_not_exists table source current named
+body_kept session if_not_exists table (bodies.Elements elements) current named said = create_table_keeps session if_not_exists table elements current named said
 
 table_kept : (session : SessionState) (statement : TableStatement) (check : Walk ErrorValue Choice) → session_is_named session ≡ true → table_says_names statement ≡ true → table_outcome session statement ≡ Some check → KeepsValid check
 table_kept session (tables.Create words) check current said e =
     let both = both_hold (is_object_named words.table) (body_says_names words.body) said in
-    body_kept session words.if_not_exists words.table words.body check current both.0 both.1 e
+    same_check (body_kept session words.if_not_exists words.table words.body current both.0 both.1) e
 table_kept session (tables.Drop if_exists dropped) check current said e = same_check (drop_table_keeps session if_exists dropped) e
 table_kept session (tables.Rename pairs) check current said e = same_check (renames_keep session pairs current said) e
+table_kept session (tables.Truncate table) check current said e = same_check (truncate_keeps session table) e
 table_kept session _ check current said e = cc
 
 show_kept : (session : SessionState) (statement : ShowStatement) (check : Walk ErrorValue Choice) → show_outcome session statement ≡ Some check → KeepsValid check
@@ -145,14 +148,15 @@ schema_makes_one : (session : SessionState) (statement : SchemaStatement) → Ma
 schema_makes_one session (schemas.Create if_not_exists name) = create_database_makes session if_not_exists name
 schema_makes_one session (schemas.Drop if_exists name) = drop_database_makes session if_exists name
 
-body_makes_one : (session : SessionState) (if_not_exists : Bool) (table : ObjRef) (body : TableBody) (check : Walk ErrorValue Choice) → body_outcome session if_not_exists table body ≡ Some check → MakesOneSpace check
-body_makes_one session if_not_exists table (bodies.Like source) check e = cc
-body_makes_one session if_not_exists table (bodies.Elements elements) check e = same_maker (create_table_makes session if_not_exists table elements) e
+body_makes_one : (session : SessionState) (if_not_exists : Bool) (table : ObjRef) (body : TableBody) → MakesOneSpace (body_outcome session if_not_exists table body)
+body_makes_one session if_not_exists table (bodies.Like source) = create_like_makes session if_not_exists table source
+body_makes_one session if_not_exists table (bodies.Elements elements) = create_table_makes session if_not_exists table elements
 
 table_makes_one : (session : SessionState) (statement : TableStatement) (check : Walk ErrorValue Choice) → table_outcome session statement ≡ Some check → MakesOneSpace check
-table_makes_one session (tables.Create words) check e = body_makes_one session words.if_not_exists words.table words.body check e
+table_makes_one session (tables.Create words) check e = same_maker (body_makes_one session words.if_not_exists words.table words.body) e
 table_makes_one session (tables.Drop if_exists dropped) check e = same_maker (drop_table_makes session if_exists dropped) e
 table_makes_one session (tables.Rename pairs) check e = same_maker (renames_make session pairs) e
+table_makes_one session (tables.Truncate table) check e = same_maker (truncate_makes session table) e
 table_makes_one session _ check e = cc
 
 show_makes_one : (session : SessionState) (statement : ShowStatement) (check : Walk ErrorValue Choice) → show_outcome session statement ≡ Some check → MakesOneSpace check

@@ -28,6 +28,8 @@ use Rattle.dd_catalog.specs.Walks.{Walk, fine, refuse, run, ◌>>=◌, look_at}
 use Rattle.rules_outcome.specs.Choices.{Choice, session_behind}
 use Rattle.rules_named.specs.Named.{schema_there, one_named}
 use Rattle.rules_valid.specs.Keeps.{KeepsNamed}
+use Rattle.rules_valid.proofs.Emptied.{truncate_leaves}
+use Rattle.rules_valid.proofs.Likes.{create_like_leaves}
 use Rattle.rules_valid.proofs.Sessions.{use_leaves, set_leaves, databases_leave, tables_leave, create_database_leaves, drop_database_leaves, create_table_leaves, drop_table_leaves, rename_leaves}
 use Rattle.rules_show.specs.Shows.{show_create_database, object_shown, view_shown, show_create_table, show_create_view}
 use Rattle.rules_decide.specs.Outcome.{schema_outcome, body_outcome, table_outcome, creation_outcome, show_outcome, session_outcome, outcome}
@@ -91,14 +93,15 @@ schema_leaves : (session : SessionState) (statement : SchemaStatement) → Keeps
 schema_leaves session (schemas.Create if_not_exists name) = create_database_leaves session if_not_exists name
 schema_leaves session (schemas.Drop if_exists name) = drop_database_leaves session if_exists name
 
-body_leaves : (session : SessionState) (if_not_exists : Bool) (table : ObjRef) (body : TableBody) (check : Walk ErrorValue Choice) → body_outcome session if_not_exists table body ≡ Some check → KeepsNamed session check
-body_leaves session if_not_exists table (bodies.Like source) check e = cc
-body_leaves session if_not_exists table (bodies.Elements elements) check e = same_leaves (create_table_leaves session if_not_exists table elements) e
+body_leaves : (session : SessionState) (if_not_exists : Bool) (table : ObjRef) (body : TableBody) → KeepsNamed session (body_outcome session if_not_exists table body)
+body_leaves session if_not_exists table (bodies.Like source) = create_like_leaves session if_not_exists table source
+body_leaves session if_not_exists table (bodies.Elements elements) = create_table_leaves session if_not_exists table elements
 
 tables_leaves : (session : SessionState) (statement : TableStatement) (check : Walk ErrorValue Choice) → table_outcome session statement ≡ Some check → KeepsNamed session check
-tables_leaves session (tables.Create words) check e = body_leaves session words.if_not_exists words.table words.body check e
+tables_leaves session (tables.Create words) check e = same_leaves (body_leaves session words.if_not_exists words.table words.body) e
 tables_leaves session (tables.Drop if_exists dropped) check e = same_leaves (drop_table_leaves session if_exists dropped) e
 tables_leaves session (tables.Rename pairs) check e = same_leaves (rename_leaves session pairs) e
+tables_leaves session (tables.Truncate table) check e = same_leaves (truncate_leaves session table) e
 tables_leaves session _ check e = cc
 
 creation_leaves : (session : SessionState) (shown : ShownCreation) → KeepsNamed session (creation_outcome session shown)

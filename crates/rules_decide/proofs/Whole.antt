@@ -9,17 +9,14 @@ use Rattle.sql_ast.specs.declared.statement.Statement.{Statement}
 use Rattle.sql_ast.specs.declared.statement.Statement.TheVariants as is
 use Rattle.sql_ast.specs.declared.show.ShowStatement.{ShowStatement}
 use Rattle.sql_ast.specs.declared.show.ShowStatement.TheVariants as shows
-use Rattle.sql_ast.specs.declared.table.TableBody.{TableBody}
-use Rattle.sql_ast.specs.declared.table.TableBody.TheVariants as bodies
 use Rattle.sql_ast.specs.declared.table.TableStatement.{TableStatement}
 use Rattle.sql_ast.specs.declared.table.TableStatement.TheVariants as tables
-use Rattle.sql_types.specs.declared.words.ObjRef.{ObjRef}
 use Rattle.dd_catalog.specs.Catalog.{Catalog, sight_of, all_of}
 use Rattle.dd_catalog.specs.Sights.{Sight}
 use Rattle.dd_catalog.specs.Walks.{Walk, done, refuse, ask, run, asked}
 use Rattle.dd_catalog.specs.WalkLaws.{Look, Extends, IsOf, IsSettled, run_agrees, run_more}
 use Rattle.rules_outcome.specs.Choices.{Choice}
-use Rattle.rules_decide.specs.Outcome.{body_outcome, table_outcome, show_outcome, outcome, is_body_decided, is_table_decided, is_show_decided, is_decided}
+use Rattle.rules_decide.specs.Outcome.{table_outcome, show_outcome, outcome, is_table_decided, is_show_decided, is_decided}
 
 -- no key of a whole catalog is unknown
 pub settled : (cat : Catalog) (check : Walk ErrorValue Choice) → IsSettled (run (all_of cat) check)
@@ -38,14 +35,11 @@ catalogs_agree cat other check all = run_agrees (all_of cat) (all_of other) chec
 pub known_settles : (cat : Catalog) (look : Look) (check : Walk ErrorValue Choice) → IsOf (sight_of cat) look → IsSettled (run look check) → run (all_of cat) check ≡ run look check
 known_settles cat look check of done_with = run_more look (all_of cat) check (record { keeps = λ key seen known. ap (λ (s : Sight). Some s) (of.stands key seen known) }) done_with
 
-body_has_check : (session : SessionState) (if_not_exists : Bool) (table : ObjRef) (body : TableBody) → is_body_decided body ≡ true → is_some (body_outcome session if_not_exists table body) ≡ true
-body_has_check session if_not_exists table (bodies.Like source) e = cc
-body_has_check session if_not_exists table (bodies.Elements elements) e = refl
-
 table_has_check : (session : SessionState) (statement : TableStatement) → is_table_decided statement ≡ true → is_some (table_outcome session statement) ≡ true
-table_has_check session (tables.Create words) e = body_has_check session words.if_not_exists words.table words.body e
+table_has_check session (tables.Create words) e = refl
 table_has_check session (tables.Drop if_exists dropped) e = refl
 table_has_check session (tables.Rename pairs) e = refl
+table_has_check session (tables.Truncate table) e = refl
 table_has_check session _ e = cc
 
 show_has_check : (session : SessionState) (statement : ShowStatement) → is_show_decided statement ≡ true → is_some (show_outcome session statement) ≡ true

@@ -30,6 +30,8 @@ use Rattle.rules_schema.specs.Sessions.{use_schema, set_tries}
 use Rattle.rules_schema.specs.Listings.{show_databases, show_tables}
 use Rattle.rules_schema.specs.Drops.{drop_table}
 use Rattle.rules_create.specs.Tables.{create_table}
+use Rattle.rules_tables.specs.Likes.{create_like}
+use Rattle.rules_tables.specs.Truncates.{truncate}
 use Rattle.rules_rename.specs.Renames.{rename}
 use Rattle.rules_show.specs.Shows.{show_create_database, show_create_table, show_create_view}
 
@@ -39,14 +41,15 @@ abbrev pub schema_outcome : SessionState → SchemaStatement → Walk ErrorValue
 schema_outcome session (schemas.Create if_not_exists name) = create_database session if_not_exists name
 schema_outcome session (schemas.Drop if_exists name) = drop_database session if_exists name
 
-abbrev pub body_outcome : SessionState → Bool → ObjRef → TableBody → Option (Walk ErrorValue Choice)
-body_outcome session if_not_exists table (bodies.Like source) = None
-body_outcome session if_not_exists table (bodies.Elements elements) = Some (create_table session if_not_exists table elements)
+abbrev pub body_outcome : SessionState → Bool → ObjRef → TableBody → Walk ErrorValue Choice
+body_outcome session if_not_exists table (bodies.Like source) = create_like session if_not_exists table source
+body_outcome session if_not_exists table (bodies.Elements elements) = create_table session if_not_exists table elements
 
 abbrev pub table_outcome : SessionState → TableStatement → Option (Walk ErrorValue Choice)
-table_outcome session (tables.Create words) = body_outcome session words.if_not_exists words.table words.body
+table_outcome session (tables.Create words) = Some (body_outcome session words.if_not_exists words.table words.body)
 table_outcome session (tables.Drop if_exists dropped) = Some (drop_table session if_exists dropped)
 table_outcome session (tables.Rename pairs) = Some (rename session pairs)
+table_outcome session (tables.Truncate table) = Some (truncate session table)
 table_outcome session statement = None
 
 abbrev pub creation_outcome : SessionState → ShownCreation → Walk ErrorValue Choice
@@ -77,14 +80,11 @@ outcome session (is.Bad error) = Some (refuse error)
 
 -- ---- the kinds that are decided
 
-abbrev pub is_body_decided : TableBody → Bool
-is_body_decided (bodies.Like source) = false
-is_body_decided (bodies.Elements elements) = true
-
 abbrev pub is_table_decided : TableStatement → Bool
-is_table_decided (tables.Create words) = is_body_decided words.body
+is_table_decided (tables.Create words) = true
 is_table_decided (tables.Drop if_exists dropped) = true
 is_table_decided (tables.Rename pairs) = true
+is_table_decided (tables.Truncate table) = true
 is_table_decided statement = false
 
 abbrev pub is_show_decided : ShowStatement → Bool
@@ -93,7 +93,7 @@ is_show_decided (shows.Tables schema) = true
 is_show_decided (shows.Creation shown) = true
 is_show_decided statement = false
 
--- all but CREATE TABLE LIKE, TRUNCATE TABLE, ALTER TABLE, the statements of indexes and views, SHOW COLUMNS and TABLE
+-- all but ALTER TABLE, the statements of indexes and views, SHOW COLUMNS and TABLE
 abbrev pub is_decided : Statement → Bool
 is_decided (is.Schema statement) = true
 is_decided (is.Table statement) = is_table_decided statement

@@ -4,7 +4,7 @@ ghost use Rattle.std.specs.Option.{option_map};
 ghost use Rattle.dd_catalog.specs.Walks.{run};
 ghost use Rattle.dd_catalog.specs.Follow.{sights};
 ghost use Rattle.rules_outcome.specs.Decided.{AreBefore, Decides, HaveIds};
-ghost use Rattle.rules_decide.specs.Outcome.{DecidesIf, body_outcome, creation_outcome, is_body_decided, is_decided, is_show_decided, is_table_decided, outcome, schema_outcome, session_outcome, show_outcome, table_outcome};
+ghost use Rattle.rules_decide.specs.Outcome.{DecidesIf, body_outcome, creation_outcome, is_decided, is_show_decided, is_table_decided, outcome, schema_outcome, session_outcome, show_outcome, table_outcome};
 
 use dd_catalog::{Lookup, Stop};
 use dd_names::TryCopy;
@@ -15,6 +15,7 @@ use rules_schema::{
     create_database, drop_database, drop_table, set_tries, show_databases, show_tables, use_schema,
 };
 use rules_show::{show_create_database, show_create_table, show_create_view};
+use rules_tables::{create_like, truncate};
 use sql_ast::{
     CreateTable, SchemaStatement, SessionState, SessionStatement, ShowStatement, ShownCreation,
     Statement, TableBody, TableStatement,
@@ -81,6 +82,7 @@ fn decide_table<L: Lookup>(
             drop_table(alloc, session, *if_exists, tables.as_slice(), look)
         }
         TableStatement::Rename { pairs } => rename(alloc, session, pairs.as_slice(), look),
+        TableStatement::Truncate { table } => truncate(alloc, session, table, look),
         _ => unreachable!(),
     }
 }
@@ -91,24 +93,27 @@ fn decide_create<L: Lookup>(
     words: &CreateTable,
     look: &L,
 ) -> Result<Decided, Stop>
-    requires { is_body_decided words.now.body ≡ true }
-    ensures exact { DecidesIf result (option_map (run (sights (L.known look.now))) (body_outcome session.now words.now.if_not_exists words.now.table words.now.body)) }
+    ensures exact { Decides result (run (sights (L.known look.now)) (body_outcome session.now words.now.if_not_exists words.now.table words.now.body)) }
     ensures before { IfOk result (λ d. AreBefore (L.known look.now) d) }
     ensures ids { IfOk result (λ d. HaveIds (L.known look.now) d) }
 {
     match &words.body {
-        TableBody::Like(_) => unreachable!(),
-        TableBody::Elements(elements) => {
-            let elements = elements.as_slice();
-            create_table(
-                alloc,
-                session,
-                words.if_not_exists,
-                &words.table,
-                elements,
-                look,
-            )
-        }
+        TableBody::Like(source) => create_like(
+            alloc,
+            session,
+            words.if_not_exists,
+            &words.table,
+            source,
+            look,
+        ),
+        TableBody::Elements(elements) => create_table(
+            alloc,
+            session,
+            words.if_not_exists,
+            &words.table,
+            elements.as_slice(),
+            look,
+        ),
     }
 }
 

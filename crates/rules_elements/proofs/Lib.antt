@@ -1,2 +1,4 @@
 pub mod Digits
 pub mod Free
+pub mod KeyParts
+pub mod Taken

@@ -50,9 +50,12 @@ abbrev pub defined_column : ColumnWords → ColumnType → Option (List ℕ) →
 defined_column column kind default =
     record { name = column.name; kind = kind; nullable = is_null_allowed column && not column.auto; default = default; auto = column.auto }
 
+-- the column of this type with its default as it is kept
+abbrev pub column_with_default : ColumnWords → ColumnType → Walk ErrorValue ColumnDef
+column_with_default column kind = kept_default column kind column.default >>= λ default. done (defined_column column kind default)
+
 unfoldable pub column_of : ColumnWords → Walk ErrorValue ColumnDef
 column_of column = do
   kind ← column_type column.name column.kind
   _ ← refuse_if (column.auto && not (is_integer kind)) (wrong_field_spec column.name)
-  default ← kept_default column kind column.default
-  done (defined_column column kind default)
+  column_with_default column kind

@@ -1,8 +1,9 @@
 -- A foreign key whose columns, name and index are settled, beside what its table has so far. Its faults are looked for in this
 -- order: the parent isn't there or is a view, 1824; no index of the parent begins with the parent columns, 1822; column by
--- column, kinds that differ, 3780; SET NULL and a column that is NOT NULL, 1830; a name that is there, 1826.
+-- column, kinds that differ, 3780; SET NULL and a column that is NOT NULL, 1830; a name that is there, 1826. 3780 and 1830 name a
+-- column as the statement writes it among the columns of the key, which the key keeps as the table spells them.
 use Rattle.std.specs.Prelude.{ℕ, Bool, true, false, ◌&&◌, ◌||◌, not, List, [], ◌∷◌, Option, Some, None, map, if◌then◌else◌}
-use Rattle.std.specs.List.{list_any}
+use Rattle.std.specs.List.{list_any, find}
 use Rattle.dd_names.specs.Names.{same, fold}
 use Rattle.dd_names.specs.declared.object_name.ObjName.{ObjName}
 use Rattle.dd_names.specs.declared.object_name.ObjectKey.TheVariants as keys
@@ -38,17 +39,25 @@ has_index_from indexes names = list_any (λ (index : IndexDef). begin_with index
 
 -- ## Columns
 
-abbrev pub odd_pair_refused : List ℕ → Option (List ℕ × List ℕ) → Option ErrorValue
-odd_pair_refused constraint None = None
-odd_pair_refused constraint (Some pair) = Some (fk_incompatible_columns pair.0 pair.1 constraint)
+abbrev pub name_or : List ℕ → Option (List ℕ) → List ℕ
+name_or name None = name
+name_or name (Some other) = other
 
-abbrev pub not_null_refused : List ℕ → Option (List ℕ) → Option ErrorValue
-not_null_refused constraint None = None
-not_null_refused constraint (Some column) = Some (fk_column_not_null column constraint)
+-- a column's name as it is written among these
+abbrev pub as_written : List (List ℕ) → List ℕ → List ℕ
+as_written written name = name_or name (find (λ (other : List ℕ). same other name) written)
+
+abbrev pub odd_pair_refused : List (List ℕ) → List ℕ → Option (List ℕ × List ℕ) → Option ErrorValue
+odd_pair_refused written constraint None = None
+odd_pair_refused written constraint (Some pair) = Some (fk_incompatible_columns (as_written written pair.0) pair.1 constraint)
+
+abbrev pub not_null_refused : List (List ℕ) → List ℕ → Option (List ℕ) → Option ErrorValue
+not_null_refused written constraint None = None
+not_null_refused written constraint (Some column) = Some (fk_column_not_null (as_written written column) constraint)
 
 -- a column that a rule makes NULL may be NULL
-abbrev pub set_null_refused : List ColumnDef → ForeignKeyDef → Option ErrorValue
-set_null_refused columns key = if sets_null key then not_null_refused key.name (first_not_null columns key.columns) else None
+abbrev pub set_null_refused : List (List ℕ) → List ColumnDef → ForeignKeyDef → Option ErrorValue
+set_null_refused written columns key = if sets_null key then not_null_refused written key.name (first_not_null columns key.columns) else None
 
 abbrev pub name_of_column : List ℕ → Option ColumnDef → List ℕ
 name_of_column name None = name
@@ -79,12 +88,13 @@ name_is_free parts name = do
 abbrev pub with_parent_columns : ForeignKeyDef → List (List ℕ) → ForeignKeyDef
 with_parent_columns key names = record key { parent_columns = names }
 
--- the parent columns are kept as the parent spells them
-unfoldable pub foreign_key_of : TableParts → ForeignKeyDef → Walk ErrorValue ForeignKeyDef
-foreign_key_of parts key = do
+-- The parent columns are kept as the parent spells them. Behind the table are the columns of the key as the statement writes
+-- them; where none writes them, those of the key.
+unfoldable pub foreign_key_of : TableParts → List (List ℕ) → ForeignKeyDef → Walk ErrorValue ForeignKeyDef
+foreign_key_of parts written key = do
   parent ← parent_of parts key.parent
   _ ← refuse_if (not (has_index_from parent.indexes key.parent_columns)) (fk_no_index_parent key.name key.parent.name)
-  _ ← refuse_some (odd_pair_refused key.name (first_odd_pair parts.columns parent.columns key.columns key.parent_columns))
-  _ ← refuse_some (set_null_refused parts.columns key)
+  _ ← refuse_some (odd_pair_refused written key.name (first_odd_pair parts.columns parent.columns key.columns key.parent_columns))
+  _ ← refuse_some (set_null_refused written parts.columns key)
   _ ← name_is_free parts key.name
   done (with_parent_columns key (map (spelled parent.columns) key.parent_columns))

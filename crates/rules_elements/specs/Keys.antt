@@ -88,13 +88,31 @@ abbrev pub allowed_name : Bool → Option (List ℕ) → Walk ErrorValue (Unit {
 allowed_name primary None = done tt
 allowed_name primary (Some name) = refuse_if (not primary && same name primary_name) (wrong_name_for_index name)
 
+-- the name that is given, which no other index has in any case
+abbrev pub unused_name : List IndexDef → List ℕ → Walk ErrorValue (List ℕ)
+unused_name indexes name = if has_index_named indexes name then refuse (dup_keyname name) else done name
+
 -- the name that the key gets: `PRIMARY`, the one that is given, or a free one
 unfoldable pub key_name : TableParts → Bool → Option (List ℕ) → List (List ℕ) → Walk ErrorValue (List ℕ)
 key_name parts true given columns = done primary_name
-key_name parts false (Some name) columns = if has_index_named parts.indexes name then refuse (dup_keyname name) else done name
+key_name parts false (Some name) columns = unused_name parts.indexes name
 key_name parts false None columns = made_name (free_name parts.indexes (base_name parts.name.name columns))
 
 -- ## The key
+
+-- the key isn't refused for its class, its name by itself, or the number of its columns
+abbrev pub allowed_key : TableParts → KeyWords → Walk ErrorValue (Unit {0})
+allowed_key parts key = do
+  _ ← refuse_if (is_primary_class key.class && list_any is_primary parts.indexes) multiple_pri_key
+  _ ← allowed_name (is_primary_class key.class) (given_name key)
+  refuse_if (nat_lt 16 (length key.columns)) too_many_key_parts
+
+-- the index with its columns as the table spells them, and with its name
+abbrev pub index_of : TableParts → KeyWords → Walk ErrorValue IndexDef
+index_of parts key = do
+  columns ← key_columns parts.columns key.columns
+  name ← key_name parts (is_primary_class key.class) (given_name key) columns
+  done (record { name = name; class = key.class; columns = columns })
 
 unfoldable pub key_of : TableParts → KeyWords → Walk ErrorValue IndexDef
 key_of parts key = do

@@ -5,7 +5,7 @@ ghost use Rattle.dd_definitions.specs.Indexes.{is_integer};
 ghost use Rattle.dd_catalog.specs.WalkLaws.{Look};
 ghost use Rattle.dd_catalog.specs.Walks.{run};
 ghost use Rattle.dd_catalog.specs.Follow.{Follows};
-ghost use Rattle.rules_elements.specs.Columns.{column_type, is_null_allowed, kept_unless, null_kept, kept_default, defined_column, column_of};
+ghost use Rattle.rules_elements.specs.Columns.{column_with_default, column_type, is_null_allowed, kept_unless, null_kept, kept_default, defined_column, column_of};
 ghost use Rattle.rules_elements.specs.Defaults.{kept_by};
 
 use crate::defaults::{decimal_text, kept_by};
@@ -24,6 +24,18 @@ pub fn check_column(alloc: Global, column: &ColumnWords) -> Result<ColumnDef, St
     if column.auto && !is_integer(kind) {
         return Err(rules_refusals::wrong_field_spec(alloc, &column.name)?);
     }
+    column_with_default(alloc, column, kind)
+}
+
+/// The column of this type with its default, as it is kept.
+#[tactic(auto, using(dd_catalog::specs::WalkLaws::run_bind))]
+fn column_with_default(
+    alloc: Global,
+    column: &ColumnWords,
+    kind: ColumnType,
+) -> Result<ColumnDef, Stop>
+    ensures { (look : Look) → Follows (λ definition. definition) result (run look (column_with_default column.now kind)) }
+{
     let default = kept_default(alloc, column, kind)?;
     Ok(defined_column(column, kind, default)?)
 }

@@ -1,16 +1,19 @@
 // The names of indexes (MySQL 8.0 Reference Manual, 13.1.20).
-ghost use Rattle.std.specs.Prelude.{◌≡◌, ◌+◌, IfOk, length};
-ghost use Rattle.std.specs.List.{list_any};
+ghost use Rattle.std.specs.Prelude.{◌≡◌, List, IfOk, OnOk};
 ghost use Rattle.std.specs.Option.{option_copied};
+ghost use Rattle.dd_names.specs.Names.{same};
 ghost use Rattle.dd_definitions.specs.Indexes.{primary_name};
+ghost use Rattle.dd_definitions.specs.declared.indexes.IndexDef.{IndexDef as Index};
 ghost use Rattle.dd_catalog.specs.WalkLaws.{Look};
 ghost use Rattle.dd_catalog.specs.Walks.{run};
 ghost use Rattle.dd_catalog.specs.Follow.{Follows};
-ghost use Rattle.rules_elements.specs.Keys.{has_index_named, is_taken, numbered, free_from, free_name, base_name, made_name, given_name, constraint_taken, allowed_name, key_name};
+ghost use Rattle.rules_elements.specs.Keys.{free_name, base_name, made_name, given_name, constraint_taken, allowed_name, unused_name, key_name};
+ghost use Rattle.rules_elements.specs.Taken.{AreNamesOf};
 
+use crate::taken_names::TakenNames;
 use dd_catalog::Stop;
-use dd_definitions::{IndexDef, TableParts};
-use dd_names::{Name, NameFault, Text, TryCopy};
+use dd_definitions::TableParts;
+use dd_names::{Name, NameFault, TryCopy};
 use sql_types::{IndexClass, KeyWords};
 use std::alloc::{AllocError, Global};
 
@@ -44,7 +47,7 @@ pub(crate) fn allow_name(alloc: Global, primary: bool, given: Option<&Name>) -> 
     match given {
         None => Ok(()),
         Some(name) => {
-            if !primary && name.as_str().eq_ignore_ascii_case(PRIMARY) {
+            if !primary && is_primary_name(name.as_str()) {
                 return Err(rules_refusals::wrong_name_for_index(alloc, name)?);
             }
             Ok(())
@@ -57,28 +60,55 @@ pub(crate) fn allow_name(alloc: Global, primary: bool, given: Option<&Name>) -> 
 pub(crate) fn key_name(
     alloc: Global,
     parts: &TableParts,
+    names: &mut TakenNames,
     primary: bool,
     given: Option<&Name>,
     columns: &[Name],
 ) -> Result<Name, Stop>
-    ensures { (look : Look) → Follows (λ name. name) result (run look (key_name parts.now primary (option_copied given.entry) columns.now)) }
+    requires { AreNamesOf names.old parts.now.indexes }
+    ensures named { (look : Look) → Follows (λ name. name) result (run look (key_name parts.now primary (option_copied given.entry) columns.now)) }
+    ensures names { OnOk result (AreNamesOf names.new parts.now.indexes) }
 {
-    let indexes = parts.indexes.as_slice();
     if primary {
         return Ok(primary_name(alloc)?);
     }
     match given {
-        Some(name) => {
-            if has_index_named(indexes, name.as_str()) {
-                return Err(rules_refusals::dup_keyname(alloc, name)?);
-            }
-            Ok(name.copy()?)
-        }
-        None => {
-            let free = free_name(alloc, indexes, base_name(&parts.name.name, columns))?;
-            made_name(alloc, free.as_str())
-        }
+        Some(name) => unused_name(alloc, names, name),
+        None => made_index_name(alloc, parts, names, columns),
     }
+}
+
+/// A name that is free, made of the first column's.
+fn made_index_name(
+    alloc: Global,
+    parts: &TableParts,
+    names: &mut TakenNames,
+    columns: &[Name],
+) -> Result<Name, Stop>
+    requires { AreNamesOf names.old parts.now.indexes }
+    ensures named { (look : Look) → Follows (λ name. name) result (run look (made_name (free_name parts.now.indexes (base_name parts.now.name.name columns.now)))) }
+    ensures names { OnOk result (AreNamesOf names.new parts.now.indexes) }
+{
+    let base = base_name(&parts.name.name, columns);
+    let free = names.free_name(alloc, parts.indexes.as_slice(), base)?;
+    made_name(alloc, free.as_str())
+}
+
+/// The name that is given, which no other index has.
+fn unused_name(alloc: Global, names: &TakenNames, name: &Name) -> Result<Name, Stop>
+    ensures { (indexes : List Index) (look : Look) → AreNamesOf names.now indexes → Follows (λ found. found) result (run look (unused_name indexes name.now)) }
+{
+    if names.has(alloc, name.as_str())? {
+        return Err(rules_refusals::dup_keyname(alloc, name)?);
+    }
+    Ok(name.copy()?)
+}
+
+/// Whether this is the name of the primary key in any case.
+pub(crate) fn is_primary_name(name: &str) -> bool
+    ensures { result ≡ same name.now primary_name }
+{
+    name.eq_ignore_ascii_case(PRIMARY)
 }
 
 fn primary_name(alloc: Global) -> Result<Name, AllocError>
@@ -109,41 +139,4 @@ fn base_name<'a>(table: &'a Name, columns: &'a [Name]) -> &'a Name
         [] => table,
         [column, ..] => column,
     }
-}
-
-/// The first that isn't taken of the name by itself and the name with `_2`, `_3` and so on.
-fn free_name(alloc: Global, indexes: &[IndexDef], base: &Name) -> Result<Text, AllocError>
-    ensures { IfOk result (λ name. name ≡ free_name indexes.now base.now) }
-{
-    let last = indexes.len() + 2;
-    'numbers: for number in 1..last {
-        let name = numbered(alloc, base.as_str(), number)?;
-        if !is_taken(indexes, name.as_str()) {
-            return Ok(name);
-        }
-    }
-    numbered(alloc, base.as_str(), last)
-}
-
-fn numbered(alloc: Global, base: &str, number: usize) -> Result<Text, AllocError>
-    ensures { IfOk result (λ name. name ≡ numbered base.now number) }
-{
-    if number == 1 {
-        return Text::of(alloc, base);
-    }
-    Ok(Text::from_string(format!(in alloc; "{base}_{number}")?))
-}
-
-fn is_taken(indexes: &[IndexDef], name: &str) -> bool
-    ensures { result ≡ is_taken indexes.now name.now }
-{
-    has_index_named(indexes, name) || name.eq_ignore_ascii_case(PRIMARY)
-}
-
-fn has_index_named(indexes: &[IndexDef], name: &str) -> bool
-    ensures { result ≡ has_index_named indexes.now name.now }
-{
-    indexes
-        .iter()
-        .any(|index| index.name.as_str().eq_ignore_ascii_case(name))
 }

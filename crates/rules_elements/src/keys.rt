@@ -1,4 +1,4 @@
-ghost use Rattle.std.specs.Prelude.{◌≡◌};
+ghost use Rattle.std.specs.Prelude.{◌≡◌, OnOk};
 ghost use Rattle.std.specs.List.{list_any};
 ghost use Rattle.std.specs.Option.{option_copied};
 ghost use Rattle.std.specs.Str.{bytes_eq};
@@ -7,9 +7,11 @@ ghost use Rattle.dd_catalog.specs.Kinds.{column_named};
 ghost use Rattle.dd_catalog.specs.WalkLaws.{Look};
 ghost use Rattle.dd_catalog.specs.Walks.{run};
 ghost use Rattle.dd_catalog.specs.Follow.{Follows};
-ghost use Rattle.rules_elements.specs.Keys.{spelled_column, one_more, key_columns, key_of};
+ghost use Rattle.rules_elements.specs.Keys.{spelled_column, one_more, key_columns, allowed_key, index_of, key_of};
+ghost use Rattle.rules_elements.specs.Taken.{AreNamesOf};
 
 use crate::index_names::{allow_name, given_name, key_name};
+use crate::taken_names::TakenNames;
 use dd_catalog::Stop;
 use dd_definitions::{ColumnDef, IndexDef, TableParts};
 use dd_names::{List, Name, TryCopy};
@@ -18,9 +20,33 @@ use std::alloc::Global;
 
 /// The index that the words define beside what the table has so far, or their first fault: 1068, 1280, 1070, 1072, 1060, 1061
 /// or 1059.
-#[tactic(auto, using(dd_catalog::specs::WalkLaws::run_bind), unfolding(crate::specs::Keys::key_of))]
 pub fn check_key(alloc: Global, parts: &TableParts, key: &KeyWords) -> Result<IndexDef, Stop>
     ensures { (look : Look) → Follows (λ index. index) result (run look (key_of parts.now key.now)) }
+{
+    let mut names = TakenNames::of(alloc, parts.indexes.as_slice())?;
+    check_key_among(alloc, parts, &mut names, key)
+}
+
+/// The same, beside the names of the table's indexes, which stay so: the index isn't added.
+#[tactic(auto, using(crate::proofs::KeyParts::key_by_parts))]
+pub fn check_key_among(
+    alloc: Global,
+    parts: &TableParts,
+    names: &mut TakenNames,
+    key: &KeyWords,
+) -> Result<IndexDef, Stop>
+    requires { AreNamesOf names.old parts.now.indexes }
+    ensures exact { (look : Look) → Follows (λ index. index) result (run look (key_of parts.now key.now)) }
+    ensures names { OnOk result (AreNamesOf names.new parts.now.indexes) }
+{
+    allow_key(alloc, parts, key)?;
+    index_of(alloc, parts, names, key)
+}
+
+/// Refuses a key for its class, its name by itself, or the number of its columns.
+#[tactic(auto, using(dd_catalog::specs::WalkLaws::run_bind))]
+fn allow_key(alloc: Global, parts: &TableParts, key: &KeyWords) -> Result<(), Stop>
+    ensures { (look : Look) → Follows (λ _. tt) result (run look (allowed_key parts.now key.now)) }
 {
     let primary = is_primary_class(key.class);
     if primary && has_primary(parts.indexes.as_slice()) {
@@ -30,8 +56,31 @@ pub fn check_key(alloc: Global, parts: &TableParts, key: &KeyWords) -> Result<In
     if key.columns.len() > 16 {
         return Err(rules_refusals::too_many_key_parts(alloc));
     }
+    Ok(())
+}
+
+/// The index with its columns as the table spells them, and with its name.
+#[tactic(auto, using(dd_catalog::specs::WalkLaws::run_bind))]
+fn index_of(
+    alloc: Global,
+    parts: &TableParts,
+    names: &mut TakenNames,
+    key: &KeyWords,
+) -> Result<IndexDef, Stop>
+    requires { AreNamesOf names.old parts.now.indexes }
+    ensures exact { (look : Look) → Follows (λ index. index) result (run look (index_of parts.now key.now)) }
+    ensures names { OnOk result (AreNamesOf names.new parts.now.indexes) }
+{
+    let primary = is_primary_class(key.class);
     let columns = key_columns(alloc, parts.columns.as_slice(), key.columns.as_slice())?;
-    let name = key_name(alloc, parts, primary, given_name(key), columns.as_slice())?;
+    let name = key_name(
+        alloc,
+        parts,
+        names,
+        primary,
+        given_name(key),
+        columns.as_slice(),
+    )?;
     Ok(IndexDef {
         name,
         class: key.class,

@@ -10,7 +10,7 @@ ghost use Rattle.dd_catalog.specs.Follow.{Follows, sights};
 ghost use Rattle.rules_elements.specs.ForeignKeys.{table_seen, parent_of, begin_with, has_index_from, name_of_column, spelled};
 
 use crate::keys::column_named;
-use dd_catalog::{Lookup, Object, Stop, look_at};
+use dd_catalog::{Lookup, Object, Stop, object_at};
 use dd_definitions::{ColumnDef, IndexDef, TableParts};
 use dd_names::{List, Name, ObjName, ObjectKey, TryCopy};
 use std::alloc::{AllocError, Global};
@@ -28,15 +28,7 @@ pub(crate) fn parent_of<'a, L: Lookup>(
     if is_same_object(parent, &parts.name) {
         return Ok(parts);
     }
-    table_seen(alloc, &parent.name, object_at(parent, look)?)
-}
-
-/// What stands at an object's key.
-fn object_at<'a, L: Lookup>(name: &ObjName, look: &'a L) -> Result<&'a Object, Stop>
-    ensures { Follows (λ object. sight object.now) result (run (sights (L.known look.now)) (look_at (ObjectKey.Object name.now))) }
-{
-    let key = ObjectKey::Object(name.copy()?);
-    look_at(look, &key)
+    table_seen(alloc, &parent.name, object_at(look, parent)?)
 }
 
 fn table_seen<'a>(alloc: Global, parent: &Name, object: &'a Object) -> Result<&'a TableParts, Stop>

@@ -55,17 +55,17 @@ passed : (look : Look) (refusal : Option ErrorValue) → run look (refuse_some r
 passed look None is = refl
 passed look (Some e) is = cc
 
-no_odd_pair : (name : List ℕ) (pair : Option (List ℕ × List ℕ)) → odd_pair_refused name pair ≡ None → pair ≡ None
-no_odd_pair name None is = refl
-no_odd_pair name (Some pair) is = cc
+no_odd_pair : (written : List (List ℕ)) (name : List ℕ) (pair : Option (List ℕ × List ℕ)) → odd_pair_refused written name pair ≡ None → pair ≡ None
+no_odd_pair written name None is = refl
+no_odd_pair written name (Some pair) is = cc
 
-no_not_null : (name : List ℕ) (column : Option (List ℕ)) → not_null_refused name column ≡ None → is_none column ≡ true
-no_not_null name None is = refl
-no_not_null name (Some column) is = cc
+no_not_null : (written : List (List ℕ)) (name : List ℕ) (column : Option (List ℕ)) → not_null_refused written name column ≡ None → is_none column ≡ true
+no_not_null written name None is = refl
+no_not_null written name (Some column) is = cc
 
-null_allowed : (nulls : Bool) (name : List ℕ) (column : Option (List ℕ)) → ◌≡◌ {A = Option ErrorValue} (cond nulls (not_null_refused name column) None) None → (not nulls || is_none column) ≡ true
-null_allowed true name column is = no_not_null name column is
-null_allowed false name column is = refl
+null_allowed : (nulls : Bool) (written : List (List ℕ)) (name : List ℕ) (column : Option (List ℕ)) → ◌≡◌ {A = Option ErrorValue} (cond nulls (not_null_refused written name column) None) None → (not nulls || is_none column) ≡ true
+null_allowed true written name column is = no_not_null written name column is
+null_allowed false written name column is = refl
 
 -- ## The name
 
@@ -103,35 +103,35 @@ indexed_is : (test : Bool) → not test ≡ false → test ≡ true
 indexed_is true is = refl
 indexed_is false is = cc
 
-key_fits : (look : Look) (parts parent : TableParts) (words : ForeignKeyDef) → IsParent look parts words.parent parent → has_index_from parent.indexes words.parent_columns ≡ true
-    → first_odd_pair parts.columns parent.columns words.columns words.parent_columns ≡ None → set_null_refused parts.columns words ≡ None → IsNameFree look parts words.name → IsKeyFit look parts words (kept_key parent words) parent
+key_fits : (look : Look) (parts parent : TableParts) (written : List (List ℕ)) (words : ForeignKeyDef) → IsParent look parts words.parent parent → has_index_from parent.indexes words.parent_columns ≡ true
+    → first_odd_pair parts.columns parent.columns words.columns words.parent_columns ≡ None → set_null_refused written parts.columns words ≡ None → IsNameFree look parts words.name → IsKeyFit look parts words (kept_key parent words) parent
 unfolding are_columns_paired
-key_fits look parts parent words stands indexed even null free = record {
+key_fits look parts parent written words stands indexed even null free = record {
   parent_is = stands;
   kept = refl;
   paired = together (is_none (first_odd_pair parts.columns parent.columns words.columns (map (spelled parent.columns) words.parent_columns)))
       (not (sets_null words) || is_none (first_not_null parts.columns words.columns))
       (ap is_none (pairs_stay parts.columns parent.columns words.columns words.parent_columns even))
-      (null_allowed (sets_null words) words.name (first_not_null parts.columns words.columns) null);
+      (null_allowed (sets_null words) written words.name (first_not_null parts.columns words.columns) null);
   indexed = λ well. index_stays parent words.parent_columns well indexed;
   own = free.own;
   others = free.others;
 }
 
-pub foreign_keys_are_fit : (look : Look) (parts : TableParts) (words key : ForeignKeyDef) → run look (foreign_key_of parts words) ≡ fine key → (parent : TableParts) × IsKeyFit look parts words key parent
+pub foreign_keys_are_fit : (look : Look) (parts : TableParts) (written : List (List ℕ)) (words key : ForeignKeyDef) → run look (foreign_key_of parts written words) ≡ fine key → (parent : TableParts) × IsKeyFit look parts words key parent
 unfolding foreign_key_of
-foreign_keys_are_fit look parts words key is =
+foreign_keys_are_fit look parts written words key is =
     let (parent, found, behind_parent) = bind_fine look (parent_of parts words.parent) _ key is in
     let odd = first_odd_pair parts.columns parent.columns words.columns words.parent_columns in
     let (_, indexed, behind_index) = bind_fine look (refuse_if (not (has_index_from parent.indexes words.parent_columns)) (fk_no_index_parent words.name words.parent.name)) _ key behind_parent in
-    let (_, even, behind_pairs) = bind_fine look (refuse_some (odd_pair_refused words.name odd)) _ key behind_index in
-    let (_, null, behind_null) = bind_fine look (refuse_some (set_null_refused parts.columns words)) _ key behind_pairs in
+    let (_, even, behind_pairs) = bind_fine look (refuse_some (odd_pair_refused written words.name odd)) _ key behind_index in
+    let (_, null, behind_null) = bind_fine look (refuse_some (set_null_refused written parts.columns words)) _ key behind_pairs in
     let (_, free, end) = bind_fine look (name_is_free parts words.name) _ key behind_null in (
       parent,
-      subst (λ k. IsKeyFit look parts words k parent) (fine_is end) (key_fits look parts parent words
+      subst (λ k. IsKeyFit look parts words k parent) (fine_is end) (key_fits look parts parent written words
           (parent_found look parts words.parent parent found)
           (indexed_is (has_index_from parent.indexes words.parent_columns) (allowed look (not (has_index_from parent.indexes words.parent_columns)) (fk_no_index_parent words.name words.parent.name) indexed))
-          (no_odd_pair words.name odd (passed look (odd_pair_refused words.name odd) even))
-          (passed look (set_null_refused parts.columns words) null)
+          (no_odd_pair written words.name odd (passed look (odd_pair_refused written words.name odd) even))
+          (passed look (set_null_refused written parts.columns words) null)
           (free_found look parts words.name free)),
     )

@@ -7,3 +7,4 @@ pub mod Numbers
 pub mod ParentSpelling
 pub mod Spelled
 pub mod WellSpelled
+pub mod WrittenAgain

@@ -16,14 +16,14 @@ use Rattle.rules_elements_laws.specs.Parents.{IsSpelledWell}
 use Rattle.rules_elements_laws.proofs.Numbers.{both, together, or_last}
 use Rattle.rules_elements_laws.proofs.Spelled.{equal_to_itself, is_false, some_is}
 
-same_fold : (a b : List ℕ) → same a b ≡ true → fold a ≡ fold b
+pub same_fold : (a b : List ℕ) → same a b ≡ true → fold a ≡ fold b
 same_fold a b is = (bytes_eq-Decides (fold a) (fold b)).0 is
 
 -- a name is looked for by its folded form alone
-by_fold : (columns : List ColumnDef) (a b : List ℕ) → fold a ≡ fold b → column_named columns a ≡ column_named columns b
+pub by_fold : (columns : List ColumnDef) (a b : List ℕ) → fold a ≡ fold b → column_named columns a ≡ column_named columns b
 by_fold columns a b is = ap (λ (f : List ℕ). find (λ (c : ColumnDef). bytes_eq (fold c.name) f) columns) is
 
-found_fold : (columns : List ColumnDef) (name : List ℕ) (column : ColumnDef) → column_named columns name ≡ Some column → fold column.name ≡ fold name
+pub found_fold : (columns : List ColumnDef) (name : List ℕ) (column : ColumnDef) → column_named columns name ≡ Some column → fold column.name ≡ fold name
 found_fold [] name column is = cc
 found_fold (c ∷ columns) name column is =
     elim (same c.name name) as (λ v. same c.name name ≡ v → ◌≡◌ {A = Option ColumnDef} (cond v (Some c) (column_named columns name)) (Some column) → fold column.name ≡ fold name) [

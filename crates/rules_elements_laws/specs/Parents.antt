@@ -1,5 +1,5 @@
 -- What a foreign key has that the rules take.
-use Rattle.std.specs.Prelude.{◌≡◌, ℕ, ◌⊎◌, true, false, Some, map}
+use Rattle.std.specs.Prelude.{◌≡◌, ℕ, ◌⊎◌, true, false, List, Some, map}
 use Rattle.std.specs.List.{list_all}
 use Rattle.dd_names.specs.Names.{fold}
 use Rattle.dd_names.specs.declared.object_name.ObjName.{ObjName}
@@ -41,6 +41,6 @@ pub record IsKeyFit (look : Look) (parts : TableParts) (words key : ForeignKeyDe
   pub own : has_constraint_named parts.foreign_keys key.name ≡ false
   pub others : (owner : ObjName) → look (keys.Constraint parts.name.schema (fold key.name)) ≡ Some (OwnerThere owner) → is_same_object owner parts.name ≡ true
 
--- each foreign key that the rules take is fit, with some parent
+-- each foreign key that the rules take is fit, with some parent, however its columns are written
 abbrev pub ForeignKeysAreFit : Type 0
-ForeignKeysAreFit = (look : Look) (parts : TableParts) (words key : ForeignKeyDef) → run look (foreign_key_of parts words) ≡ fine key → (parent : TableParts) × IsKeyFit look parts words key parent
+ForeignKeysAreFit = (look : Look) (parts : TableParts) (written : List (List ℕ)) (words key : ForeignKeyDef) → run look (foreign_key_of parts written words) ≡ fine key → (parent : TableParts) × IsKeyFit look parts words key parent

@@ -5,6 +5,7 @@ ghost use Rattle.rules_elements_laws.specs.Indexes.{IndexesAreFit};
 ghost use Rattle.rules_elements_laws.specs.MadeNames.{MadeNamesAreNames};
 ghost use Rattle.rules_elements_laws.specs.Parents.{ForeignKeysAreFit, TablesAreSpelledWell};
 ghost use Rattle.rules_elements_laws.specs.Taken.{ColumnsAreFit};
+ghost use Rattle.rules_elements_laws.specs.Written.{ColumnsAreNamedAsWritten};
 
 /// An index without any name gets one that is free: no other index has it in any case, and it isn't `PRIMARY`. What is made of a
 /// name is one too, unless it is too long. Each index that the rules take has as many columns as are written, 16 at most and
@@ -22,8 +23,10 @@ pub fn column_laws()
 {}
 
 /// Each foreign key that the rules take is fit beside its table and its parent, and each well-formed table is a parent whose
-/// indexes spell its columns in one way. It does nothing when it runs.
+/// indexes spell its columns in one way. A refusal names the columns of a key as the statement writes them. It does nothing when it
+/// runs.
 pub fn foreign_key_laws()
     ensures fit { ForeignKeysAreFit }
     ensures parents { TablesAreSpelledWell }
+    ensures written { ColumnsAreNamedAsWritten }
 {}

@@ -2,7 +2,8 @@
 use Rattle.std.specs.Prelude.{ℕ, Bool, true, false, List, [], ◌∷◌, ◌++◌, Option, Some, None, codes, map}
 use Prim.Native.String.{String}
 use Rattle.dd_errors.specs.Errors.{ErrorValue}
-use Rattle.sql_types.specs.declared.choices.FkRule.TheVariants.{NoAction}
+use Rattle.sql_types.specs.declared.choices.FkRule.{FkRule}
+use Rattle.sql_types.specs.declared.choices.FkRule.TheVariants.{NoAction, SetNull}
 use Rattle.sql_types.specs.declared.choices.IndexClass.TheVariants.{Plain}
 use Rattle.sql_ast.specs.declared.element.Element.{Element}
 use Rattle.sql_ast.specs.declared.element.Element.TheVariants.{Column, Key, ForeignKey}
@@ -28,17 +29,21 @@ int_column name auto = Column (record { name = codes name; kind = int_words; nul
 abbrev pub key : List ℕ → List (List ℕ) → Element
 key name columns = Key (key_words Plain None (Some name) columns)
 
--- a foreign key on `a`, with this constraint, to `p`
-abbrev pub refers : Option (List ℕ) → Element
-refers constraint = ForeignKey (record {
+-- a foreign key to `p` by its constraint, its columns, the parent's columns and the rule of ON DELETE
+abbrev pub refers_by : Option (List ℕ) → List (List ℕ) → List (List ℕ) → FkRule → Element
+refers_by constraint columns parent_columns on_delete = ForeignKey (record {
   constraint = constraint;
   name = None;
-  columns = a ∷ [];
+  columns = columns;
   parent = record { schema = None; name = codes "p" };
-  parent_columns = codes "Id" ∷ [];
-  on_delete = NoAction;
+  parent_columns = parent_columns;
+  on_delete = on_delete;
   on_update = NoAction;
 })
+
+-- a foreign key on `a`, with this constraint
+abbrev pub refers : Option (List ℕ) → Element
+refers constraint = refers_by constraint (a ∷ []) (codes "Id" ∷ []) NoAction
 
 -- the table with the column `a`, one index on it, and such foreign keys
 abbrev pub referring : String → List ForeignKeyDef → TableParts
@@ -70,3 +75,27 @@ refused_tables =
     ∷ (creates (int_column "a" true ∷ int_column "b" false ∷ key (codes "k") (b ∷ []) ∷ []), error 1075 [])
     ∷ (creates (int_column "a" true ∷ int_column "b" false ∷ many_keys 65), error 1069 [])
     ∷ []
+
+-- ## The spelling of columns
+
+-- a column of INT that is NOT NULL
+abbrev pub never_null : String → Element
+never_null name = Column (record { name = codes name; kind = int_words; nullable = Some false; default = None; auto = false; unique = false; primary = false })
+
+-- INT beside VARCHAR, of a table that has `b` and `Col`
+abbrev pub odd_kinds : Walk ErrorValue TableParts
+odd_kinds = creates (int_column "b" false ∷ int_column "Col" false ∷ refers_by None (codes "B" ∷ codes "cOL" ∷ []) (codes "iD" ∷ codes "cODE" ∷ []) NoAction ∷ [])
+
+abbrev pub set_null : Walk ErrorValue TableParts
+set_null = creates (never_null "Col" ∷ refers_by None (codes "cOL" ∷ []) (codes "iD" ∷ []) SetNull ∷ [])
+
+-- a refusal names columns as the statement writes them in the foreign key
+abbrev pub told_as_written : List Case
+told_as_written =
+    (odd_kinds, error 3780 (codes "cOL" ∷ codes "cODE" ∷ codes "t_ibfk_1" ∷ []))
+    ∷ (set_null, error 1830 (codes "cOL" ∷ codes "t_ibfk_1" ∷ []))
+    ∷ []
+
+-- and not as the table spells them
+abbrev pub not_told : List (Walk ErrorValue TableParts × List ℕ)
+not_told = (odd_kinds, codes "Col") ∷ (set_null, codes "Col") ∷ []

@@ -54,7 +54,7 @@ family (keys.Constraint schema folded) =
 family key = None
 
 abbrev pub keeps : ForeignKeyDef → List (List ℕ) → Case
-keeps key spelled = (foreign_key_of child key, fine (record key { parent_columns = spelled }))
+keeps key spelled = (foreign_key_of child key.columns key, fine (record key { parent_columns = spelled }))
 
 abbrev pub foreign_keys : List Case
 foreign_keys =
@@ -66,7 +66,7 @@ foreign_keys =
     ∷ []
 
 abbrev pub refuses : ForeignKeyDef → ℕ → List (List ℕ) → Case
-refuses key number args = (foreign_key_of child key, error number args)
+refuses key number args = (foreign_key_of child key.columns key, error number args)
 
 abbrev pub refused_foreign_keys : List Case
 refused_foreign_keys =
@@ -87,10 +87,10 @@ refused_foreign_keys =
 -- nothing is known: the parent is looked at first, unless it is the table itself
 abbrev pub unknown_parents : List Case
 unknown_parents =
-    (foreign_key_of child (foreign_key "F" (a ∷ []) "p" (codes "Id" ∷ []) NoAction), needs (keys.Object (object "p")))
-    ∷ (foreign_key_of child (foreign_key "F" (codes "d" ∷ []) "t" (a ∷ []) NoAction), needs (keys.Constraint (codes "d") (codes "f")))
+    (foreign_key_of child (a ∷ []) (foreign_key "F" (a ∷ []) "p" (codes "Id" ∷ []) NoAction), needs (keys.Object (object "p")))
+    ∷ (foreign_key_of child (codes "d" ∷ []) (foreign_key "F" (codes "d" ∷ []) "t" (a ∷ []) NoAction), needs (keys.Constraint (codes "d") (codes "f")))
     ∷ []
 
 -- with its parent alone a foreign key still needs the constraint of its name
 abbrev pub unknown_owners : List Case
-unknown_owners = (foreign_key_of child (foreign_key "F" (a ∷ []) "p" (codes "Id" ∷ []) NoAction), needs (keys.Constraint (codes "d") (codes "f"))) ∷ []
+unknown_owners = (foreign_key_of child (a ∷ []) (foreign_key "F" (a ∷ []) "p" (codes "Id" ∷ []) NoAction), needs (keys.Constraint (codes "d") (codes "f"))) ∷ []

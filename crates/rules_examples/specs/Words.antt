@@ -1,5 +1,7 @@
 -- Short ways to write columns, keys, tables and what checks come to.
-use Rattle.std.specs.Prelude.{◌≡◌, ℕ, Bool, false, List, Option, None, map, codes}
+use Rattle.std.specs.Prelude.{◌≡◌, ℕ, Bool, false, List, [], ◌∷◌, Option, None, map, codes}
+use Rattle.std.specs.List.{starts_with}
+use Rattle.std.specs.Str.{bytes_eq}
 use Prim.Native.String.{String}
 use Rattle.dd_names.specs.declared.object_name.ObjName.{ObjName}
 use Rattle.dd_errors.specs.Errors.{ErrorValue}
@@ -16,7 +18,7 @@ use Rattle.dd_definitions.specs.declared.columns.ColumnDef.{ColumnDef}
 use Rattle.dd_definitions.specs.declared.indexes.IndexDef.{IndexDef}
 use Rattle.dd_definitions.specs.declared.foreign_keys.ForeignKeyDef.{ForeignKeyDef}
 use Rattle.dd_definitions.specs.declared.parts.TableParts.{TableParts}
-use Rattle.dd_catalog.specs.Walks.{Walk, Found, refused, run}
+use Rattle.dd_catalog.specs.Walks.{Walk, Found, fine, refused, needs, run}
 use Rattle.dd_catalog.specs.WalkLaws.{Look}
 
 abbrev pub nothing_known : Look
@@ -28,6 +30,16 @@ AllCome look cases = map (λ c. run look c.0) cases ≡ map (λ c. c.1) cases
 
 abbrev pub error : {A : Type 0} → ℕ → List (List ℕ) → Found ErrorValue A
 error number args = refused (record { number = number; args = args })
+
+-- the check is refused, and this is the first argument
+abbrev pub tells : {A : Type 0} → List ℕ → Found ErrorValue A → Bool
+tells name (fine x) = false
+tells name (refused e) = starts_with bytes_eq e.args (name ∷ [])
+tells name (needs key) = false
+
+-- no check is refused with the first argument that stands beside it
+abbrev pub NoneTells : {A : Type 0} → Look → List (Walk ErrorValue A × List ℕ) → Type 0
+NoneTells look cases = map (λ c. tells c.1 (run look c.0)) cases ≡ map (λ c. false) cases
 
 abbrev pub object : String → ObjName
 object name = record { schema = codes "d"; name = codes name }

@@ -5,7 +5,6 @@ mod answers;
 mod named;
 
 pub use answers::{add_edit, stood};
-pub use dd_catalog::look_at as known_at;
 pub use named::{
     Placed, all_named, first_given, one_named, one_placed, resolved, schema_id, schema_there,
 };

@@ -8,7 +8,7 @@ ghost use Rattle.dd_catalog.specs.Follow.{Follows, sights};
 ghost use Rattle.rules_elements.specs.Keys.{first_given};
 ghost use Rattle.rules_named.specs.Named.{resolved, schema_there, own_schema_there, one_named, all_named};
 
-use dd_catalog::{Lookup, Object, Stop, look_at};
+use dd_catalog::{Lookup, Object, Stop, schema_at};
 use dd_names::{List, Name, ObjName, ObjectKey, TryCopy};
 use sql_types::ObjRef;
 use std::alloc::Global;
@@ -47,19 +47,10 @@ pub fn schema_there<'a, L: Lookup>(
     ensures seen { Follows (λ _. tt) result (run (sights (L.known look.now)) (schema_there schema.now)) }
     ensures known { IfOk result (λ object. L.known look.now (ObjectKey.Schema schema.now) ≡ Some object.now) }
 {
-    match schema_at(schema, look)? {
+    match schema_at(look, schema)? {
         Object::Absent => Err(rules_refusals::bad_db(alloc, schema)?),
         object => Ok(object),
     }
-}
-
-/// What stands at a schema's key.
-fn schema_at<'a, L: Lookup>(schema: &Name, look: &'a L) -> Result<&'a Object, Stop>
-    ensures seen { Follows (λ object. sight object.now) result (run (sights (L.known look.now)) (look_at (ObjectKey.Schema schema.now))) }
-    ensures known { IfOk result (λ object. L.known look.now (ObjectKey.Schema schema.now) ≡ Some object.now) }
-{
-    let key = ObjectKey::Schema(schema.copy()?);
-    look_at(look, &key)
 }
 
 /// The object that is named, whose schema is there: 1046, 1049.

@@ -1,5 +1,5 @@
 -- A small catalog: in the schema `d` the tables `p`, `t`, `o` and the view `v`, and in the schema `e` the table `c`.
-use Rattle.std.specs.Prelude.{◌≡◌, ℕ, false, List, [], ◌∷◌, Option, Some, None, map, codes, if◌then◌else◌}
+use Rattle.std.specs.Prelude.{◌≡◌, ℕ, false, List, [], ◌∷◌, Some, None, map, codes, if◌then◌else◌}
 use Prim.Native.String.{String}
 use Rattle.std.specs.Str.{bytes_eq}
 use Rattle.dd_names.specs.declared.object_name.ObjName.{ObjName}

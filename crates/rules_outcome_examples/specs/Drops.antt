@@ -14,7 +14,7 @@ use Rattle.rules_outcome_examples.specs.Catalogs.{error, in_d, in_e, named, sess
 abbrev pub Case : Type 0
 Case = Walk ErrorValue Choice × Found ErrorValue Choice
 
-abbrev of_e : String → ObjRef
+abbrev pub of_e : String → ObjRef
 of_e name = record { schema = Some (codes "e"); name = codes name }
 
 -- a view is no table; a name that isn't there is told before a child that stays; a child goes with its parent
@@ -33,7 +33,7 @@ dropped_tables =
 abbrev in_schema_e : SessionState
 in_schema_e = record session { current = Some (codes "e") }
 
-abbrev in_none : SessionState
+abbrev pub in_none : SessionState
 in_none = record session { current = None }
 
 -- a child outside the schema stays; the current schema is none where it goes; a schema of the server is there

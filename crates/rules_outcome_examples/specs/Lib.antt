@@ -2,3 +2,4 @@ pub mod Catalogs
 pub mod Drops
 pub mod Renamings
 pub mod Shows
+pub mod Tables

@@ -7,7 +7,7 @@ use Rattle.show_text.specs.Tables.{database_text, table_text}
 use Rattle.show_text.specs.Views.{view_text}
 use Rattle.rules_outcome.specs.Choices.{Choice, Lists}
 use Rattle.rules_show.specs.Shows.{show_create_database, show_create_table, show_create_view}
-use Rattle.rules_outcome_examples.specs.Catalogs.{error, in_d, key, named, session, table, view}
+use Rattle.rules_outcome_examples.specs.Catalogs.{error, in_d, named, session, table, view}
 
 abbrev pub Case : Type 0
 Case = Walk ErrorValue Choice × Found ErrorValue Choice

@@ -37,13 +37,36 @@ abbrev pub no_such_table : ObjName → ErrorValue
 no_such_table name = error_with 1146 (name.schema ∷ name.name ∷ [])
 
 -- the schema, the name, and what it isn't
-abbrev pub wrong_object : ObjName → ErrorValue
-wrong_object name = error_with 1347 (name.schema ∷ name.name ∷ codes "VIEW" ∷ [])
+abbrev pub wrong_object : ObjName → List ℕ → ErrorValue
+wrong_object name wanted = error_with 1347 (name.schema ∷ name.name ∷ wanted ∷ [])
 
 abbrev pub forbid_schema_change : List ℕ → List ℕ → ErrorValue
 forbid_schema_change from to = error_with 1450 (from ∷ to ∷ [])
 
+-- the child table, and its constraint
+abbrev pub truncate_illegal_fk : ObjName → List ℕ → ErrorValue
+truncate_illegal_fk child constraint = error_with 1701 (child.schema ∷ child.name ∷ constraint ∷ [])
+
+-- ---- queries and views
+
+abbrev pub non_uniq_error : List ℕ → ErrorValue
+non_uniq_error column = error_with 1052 (column ∷ [])
+
+-- a table of the information schema
+abbrev pub unknown_table : List ℕ → ErrorValue
+unknown_table name = error_with 1109 (name ∷ [])
+
+abbrev pub view_wrong_list : ErrorValue
+view_wrong_list = error_with 1353 []
+
+abbrev pub view_invalid : ObjName → ErrorValue
+view_invalid name = error_with 1356 (name.schema ∷ name.name ∷ [])
+
 -- ---- columns
+
+-- the column, and where it is looked for
+abbrev pub bad_field_error : List ℕ → List ℕ → ErrorValue
+bad_field_error column place = error_with 1054 (column ∷ place ∷ [])
 
 abbrev pub dup_fieldname : List ℕ → ErrorValue
 dup_fieldname name = error_with 1060 (name ∷ [])
@@ -59,6 +82,13 @@ too_big_fieldlength column most = error_with 1074 (column ∷ most ∷ [])
 
 abbrev pub wrong_auto_key : ErrorValue
 wrong_auto_key = error_with 1075 []
+
+abbrev pub cant_remove_all_fields : ErrorValue
+cant_remove_all_fields = error_with 1090 []
+
+-- a column, an index or a constraint
+abbrev pub cant_drop_field_or_key : List ℕ → ErrorValue
+cant_drop_field_or_key name = error_with 1091 (name ∷ [])
 
 abbrev pub table_must_have_columns : ErrorValue
 table_must_have_columns = error_with 1113 []
@@ -92,6 +122,9 @@ primary_cant_have_null = error_with 1171 []
 abbrev pub wrong_name_for_index : List ℕ → ErrorValue
 wrong_name_for_index name = error_with 1280 (name ∷ [])
 
+abbrev pub drop_index_fk : List ℕ → ErrorValue
+drop_index_fk index = error_with 1553 (index ∷ [])
+
 -- ---- foreign keys
 
 abbrev pub wrong_fk_def : List ℕ → ErrorValue
@@ -109,6 +142,13 @@ fk_dup_name constraint = error_with 1826 (constraint ∷ [])
 abbrev pub fk_column_not_null : List ℕ → List ℕ → ErrorValue
 fk_column_not_null column constraint = error_with 1830 (column ∷ constraint ∷ [])
 
+abbrev pub fk_column_cannot_drop : List ℕ → List ℕ → ErrorValue
+fk_column_cannot_drop column constraint = error_with 1828 (column ∷ constraint ∷ [])
+
+-- the column, the constraint, and the child table
+abbrev pub fk_column_cannot_drop_child : List ℕ → List ℕ → List ℕ → ErrorValue
+fk_column_cannot_drop_child column constraint child = error_with 1829 (column ∷ constraint ∷ child ∷ [])
+
 -- the table, the constraint, and the child table
 abbrev pub fk_cannot_drop_parent : List ℕ → List ℕ → List ℕ → ErrorValue
 fk_cannot_drop_parent table constraint child = error_with 3730 (table ∷ constraint ∷ child ∷ [])
@@ -121,3 +161,6 @@ fk_incompatible_columns column parent_column constraint = error_with 3780 (colum
 -- a limit in decimal
 abbrev pub beyond_limit : String → ErrorValue
 beyond_limit limit = error_with 9001 (codes limit ∷ [])
+
+abbrev pub views_too_deep : ErrorValue
+views_too_deep = error_with 9003 []

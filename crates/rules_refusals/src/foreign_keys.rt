@@ -1,6 +1,6 @@
 // Refusals of foreign keys, each with the arguments of its text (MySQL 8.0 Error Reference, 2).
 ghost use Rattle.std.specs.Prelude.{◌≡◌, IfOk};
-ghost use Rattle.rules_refusals.specs.Refusals.{fk_cannot_drop_parent, fk_cannot_open_parent, fk_column_not_null, fk_dup_name, fk_incompatible_columns, fk_no_index_parent, wrong_fk_def};
+ghost use Rattle.rules_refusals.specs.Refusals.{fk_cannot_drop_parent, fk_cannot_open_parent, fk_column_cannot_drop, fk_column_cannot_drop_child, fk_column_not_null, fk_dup_name, fk_incompatible_columns, fk_no_index_parent, wrong_fk_def};
 
 use crate::arguments::{one, three, two};
 use dd_catalog::Stop;
@@ -42,6 +42,34 @@ pub fn fk_dup_name(alloc: Global, constraint: &Name) -> Result<Stop, AllocError>
     ensures { IfOk result (λ stop. stop ≡ Stop.Refused (fk_dup_name constraint.now)) }
 {
     Ok(Stop::Refused(SqlError::of(1826, one(alloc, constraint.as_str())?)))
+}
+
+/// 1828: a foreign key of the table has the column.
+#[tactic(auto, unfolding(dd_errors::specs::Errors::form_of))]
+pub fn fk_column_cannot_drop(
+    alloc: Global,
+    column: &Name,
+    constraint: &Name,
+) -> Result<Stop, AllocError>
+    ensures { IfOk result (λ stop. stop ≡ Stop.Refused (fk_column_cannot_drop column.now constraint.now)) }
+{
+    Ok(Stop::Refused(SqlError::of(1828, two(alloc, column.as_str(), constraint.as_str())?)))
+}
+
+/// 1829: a foreign key of a child refers to the column.
+#[tactic(auto, unfolding(dd_errors::specs::Errors::form_of))]
+pub fn fk_column_cannot_drop_child(
+    alloc: Global,
+    column: &Name,
+    constraint: &Name,
+    child: &Name,
+) -> Result<Stop, AllocError>
+    ensures { IfOk result (λ stop. stop ≡ Stop.Refused (fk_column_cannot_drop_child column.now constraint.now child.now)) }
+{
+    Ok(Stop::Refused(SqlError::of(
+        1829,
+        three(alloc, column.as_str(), constraint.as_str(), child.as_str())?,
+    )))
 }
 
 /// 1830: SET NULL on a column that is NOT NULL.

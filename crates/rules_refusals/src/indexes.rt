@@ -1,6 +1,6 @@
 // Refusals of indexes, each with the arguments of its text (MySQL 8.0 Error Reference, 2).
 ghost use Rattle.std.specs.Prelude.{◌≡◌, IfOk};
-ghost use Rattle.rules_refusals.specs.Refusals.{dup_keyname, key_column_does_not_exist, multiple_pri_key, primary_cant_have_null, too_long_ident, too_many_key_parts, too_many_keys, wrong_name_for_index};
+ghost use Rattle.rules_refusals.specs.Refusals.{drop_index_fk, dup_keyname, key_column_does_not_exist, multiple_pri_key, primary_cant_have_null, too_long_ident, too_many_key_parts, too_many_keys, wrong_name_for_index};
 
 use crate::arguments::one;
 use dd_catalog::Stop;
@@ -70,4 +70,12 @@ pub fn wrong_name_for_index(alloc: Global, name: &Name) -> Result<Stop, AllocErr
     ensures { IfOk result (λ stop. stop ≡ Stop.Refused (wrong_name_for_index name.now)) }
 {
     Ok(Stop::Refused(SqlError::of(1280, one(alloc, name.as_str())?)))
+}
+
+/// 1553: a foreign key needs the index.
+#[tactic(auto, unfolding(dd_errors::specs::Errors::form_of))]
+pub fn drop_index_fk(alloc: Global, index: &Name) -> Result<Stop, AllocError>
+    ensures { IfOk result (λ stop. stop ≡ Stop.Refused (drop_index_fk index.now)) }
+{
+    Ok(Stop::Refused(SqlError::of(1553, one(alloc, index.as_str())?)))
 }

@@ -1,6 +1,6 @@
 // Refusals by tables and views, each with the arguments of its text (MySQL 8.0 Error Reference, 2).
 ghost use Rattle.std.specs.Prelude.{◌≡◌, IfOk};
-ghost use Rattle.rules_refusals.specs.Refusals.{bad_table, forbid_schema_change, no_such_table, nonuniq_table, table_exists, wrong_object};
+ghost use Rattle.rules_refusals.specs.Refusals.{bad_table, forbid_schema_change, no_such_table, nonuniq_table, table_exists, truncate_illegal_fk, wrong_object};
 
 use crate::arguments::{one, three, two};
 use dd_catalog::Stop;
@@ -40,14 +40,14 @@ pub fn no_such_table(alloc: Global, name: &ObjName) -> Result<Stop, AllocError>
     Ok(Stop::Refused(SqlError::of(1146, two(alloc, name.schema.as_str(), name.name.as_str())?)))
 }
 
-/// 1347: the object is no view.
+/// 1347: the object isn't what is wanted, `VIEW` or `BASE TABLE`.
 #[tactic(auto, unfolding(dd_errors::specs::Errors::form_of))]
-pub fn wrong_object(alloc: Global, name: &ObjName) -> Result<Stop, AllocError>
-    ensures { IfOk result (λ stop. stop ≡ Stop.Refused (wrong_object name.now)) }
+pub fn wrong_object(alloc: Global, name: &ObjName, wanted: &str) -> Result<Stop, AllocError>
+    ensures { IfOk result (λ stop. stop ≡ Stop.Refused (wrong_object name.now wanted.now)) }
 {
     Ok(Stop::Refused(SqlError::of(
         1347,
-        three(alloc, name.schema.as_str(), name.name.as_str(), "VIEW")?,
+        three(alloc, name.schema.as_str(), name.name.as_str(), wanted)?,
     )))
 }
 
@@ -57,4 +57,24 @@ pub fn forbid_schema_change(alloc: Global, from: &Name, to: &Name) -> Result<Sto
     ensures { IfOk result (λ stop. stop ≡ Stop.Refused (forbid_schema_change from.now to.now)) }
 {
     Ok(Stop::Refused(SqlError::of(1450, two(alloc, from.as_str(), to.as_str())?)))
+}
+
+/// 1701: a foreign key of a child refers to the table.
+#[tactic(auto, unfolding(dd_errors::specs::Errors::form_of))]
+pub fn truncate_illegal_fk(
+    alloc: Global,
+    child: &ObjName,
+    constraint: &str,
+) -> Result<Stop, AllocError>
+    ensures { IfOk result (λ stop. stop ≡ Stop.Refused (truncate_illegal_fk child.now constraint.now)) }
+{
+    Ok(Stop::Refused(SqlError::of(
+        1701,
+        three(
+            alloc,
+            child.schema.as_str(),
+            child.name.as_str(),
+            constraint,
+        )?,
+    )))
 }

@@ -15,9 +15,9 @@ use crate::objects::is_changed;
 use crate::ordered::put_names;
 use crate::overlay::Overlay;
 use crate::put::Put;
-use dd_catalog::{Lookup, Object, Stop, look_at};
+use dd_catalog::{Lookup, Object, Stop};
 use dd_definitions::ForeignKeyDef;
-use dd_names::{List, ObjName, ObjectKey, TryCopy};
+use dd_names::{List, ObjName, TryCopy};
 use rules_elements::is_same_object;
 use std::alloc::{AllocError, Global};
 
@@ -30,7 +30,7 @@ pub(crate) fn children_at<L: Lookup>(
 ) -> Result<List<ObjName>, Stop>
     ensures { Follows (λ children. ChildrenThere children) result (run (behind (L.known look.now) overlay.now) (look_at (keys.Children parent.now))) }
 {
-    let known = look_at(look, &ObjectKey::Children(parent.copy()?))?;
+    let known = dd_catalog::children_at(look, parent)?;
     let puts = overlay.as_slice();
     let changed = changed_children(alloc, puts, parent)?;
     let mut children = kept_children(alloc, puts, children_seen(known))?;

@@ -16,8 +16,8 @@ ghost use Rattle.rules_rename.specs.Puts.{behind, after_at, is_changed};
 
 use crate::overlay::{Overlay, object_cmp};
 use crate::put::{Left, Put};
-use dd_catalog::{Known, Lookup, Object, Stop, look_at};
-use dd_names::{Name, ObjName, ObjectKey, TryCopy};
+use dd_catalog::{Lookup, Object, Stop, schema_at};
+use dd_names::{Name, ObjName};
 use std::alloc::{AllocError, Global};
 use std::cmp::Ordering;
 
@@ -31,7 +31,7 @@ pub(crate) fn object_at<'a, L: Lookup>(
     ensures known { IfOk result (λ found. L.known look.now (keys.Object name.now) ≡ Some found.0.now) }
     ensures ids { AreWithIds (L.known look.now) overlay.now → IfOk result (λ found. HasIdsAt (L.known look.now) name.now (kept found.1.now)) }
 {
-    let before = look_at(look, &ObjectKey::Object(name.copy()?))?;
+    let before = dd_catalog::object_at(look, name)?;
     match left_at(overlay.as_slice(), name) {
         None => Ok((before, before)),
         Some(left) => Ok((before, left.object())),
@@ -62,9 +62,9 @@ pub(crate) fn is_changed(puts: &[Put], name: &ObjName) -> bool
 pub(crate) fn schema_id<L: Lookup>(schema: &Name, look: &L) -> Result<u32, AllocError>
     ensures { IfOk result (λ id. L.known look.now (keys.Schema schema.now) ≡ Some (objects.Schema id)) }
 {
-    match look.look(&ObjectKey::Schema(schema.copy()?)) {
-        Known::Here(object) => id_of_schema(object),
-        Known::Unknown => Err(AllocError),
+    match schema_at(look, schema) {
+        Ok(object) => id_of_schema(object),
+        Err(_) => Err(AllocError),
     }
 }
 

@@ -15,9 +15,9 @@ ghost use Rattle.rules_rename.specs.Puts.{behind, placed, is_owner, owner_left, 
 use crate::objects::is_changed;
 use crate::overlay::Overlay;
 use crate::put::Put;
-use dd_catalog::{Lookup, Object, Stop, look_at};
+use dd_catalog::{Lookup, Object, Stop, constraint_at};
 use dd_definitions::ForeignKeyDef;
-use dd_names::{Name, ObjName, ObjectKey, TryCopy};
+use dd_names::{Name, ObjName, TryCopy};
 use std::alloc::AllocError;
 
 /// The owner of the constraint of that name behind the changes.
@@ -29,11 +29,7 @@ pub(crate) fn owner_at<L: Lookup>(
 ) -> Result<Object, Stop>
     ensures { Follows (λ object. sight object) result (run (behind (L.known look.now) overlay.now) (look_at (keys.Constraint schema.now (fold name.now)))) }
 {
-    let key = ObjectKey::Constraint {
-        schema: schema.copy()?,
-        folded: name.fold()?,
-    };
-    let known = look_at(look, &key)?;
+    let known = constraint_at(look, schema, name)?;
     let puts = overlay.as_slice();
     match changed_owner(puts, schema, name) {
         None => Ok(owner_left(puts, known)?),

@@ -31,14 +31,13 @@ goes_on look session schema seen there few passed =
     ∙ run_fine look (refuse_if (nat_lt 65536 (length (names_seen seen))) (beyond_limit "65536")) (objects seen) tt fits
     ∙ run_fine look (every (may_go schema) (names_seen seen)) (last seen) tt passed
 
-pub all_go : (look : Look) (session : SessionState) (schema asked : List ℕ) (seen : Sight) (names : List (List ℕ)) (goes : List Change) (choice : Choice)
-    → asked ≡ schema → run {E = ErrorValue} look (look_at (keys.Objects asked)) ≡ fine seen → names ≡ names_seen seen → length names ≤ 65536
+pub all_go : (look : Look) (session : SessionState) (schema : List ℕ) (seen : Sight) (names : List (List ℕ)) (goes : List Change) (choice : Choice)
+    → run {E = ErrorValue} look (look_at (keys.Objects schema)) ≡ fine seen → names ≡ names_seen seen → length names ≤ 65536
     → run look (every (may_go schema) names) ≡ fine tt → goes ≡ map (λ name. gone (object_in schema name)) names
     → choice ≡ Changes (goes ++ change (keys.Schema schema) Gone ∷ []) (without_schema session schema) → ◌≡◌ {A = Found ErrorValue Choice} (fine choice) (run look (schema_gone session schema))
-all_go look session schema asked seen names goes choice same there are few passed changes is =
+all_go look session schema seen names goes choice there are few passed changes is =
     let answer : Choice → Found ErrorValue Choice = λ c. fine c in
-    let here = subst (λ s. run {E = ErrorValue} look (look_at (keys.Objects s)) ≡ fine seen) same there in
     let few_seen = subst (λ (ns : List (List ℕ)). length ns ≤ 65536) are few in
     let passed_seen = subst (λ (ns : List (List ℕ)). run look (every (may_go schema) ns) ≡ fine tt) are passed in
     ap answer (is ∙ ap (λ cs. Changes (cs ++ change (keys.Schema schema) Gone ∷ []) (without_schema session schema)) (changes ∙ ap (map (λ name. gone (object_in schema name))) are))
-    ∙ sym (goes_on look session schema seen here few_seen passed_seen)
+    ∙ sym (goes_on look session schema seen there few_seen passed_seen)

@@ -10,9 +10,8 @@ use Rattle.dd_catalog.specs.Walks.{fine, run, look_at}
 use Rattle.dd_catalog.specs.WalkLaws.{Look, run_fine}
 use Rattle.rules_schema.specs.Drops.{children_seen, refuse_for, no_child_stays}
 
-pub staying_seen : (look : Look) (goes : ObjName → Bool) (table asked : ObjName) (seen : Sight) (child : Option ObjName) → asked ≡ table → run {E = ErrorValue} look (look_at (keys.Children asked)) ≡ fine seen
+pub staying_seen : (look : Look) (goes : ObjName → Bool) (table : ObjName) (seen : Sight) (child : Option ObjName) → run {E = ErrorValue} look (look_at (keys.Children table)) ≡ fine seen
     → child ≡ find (λ c. not (goes c)) (children_seen seen) → run look (refuse_for table child) ≡ run look (no_child_stays goes table)
 unfolding no_child_stays
-staying_seen look goes table asked seen child same there is =
-    let here = subst (λ o. run {E = ErrorValue} look (look_at (keys.Children o)) ≡ fine seen) same there in
-    ap (λ c. run look (refuse_for table c)) is ∙ sym (run_fine look (look_at (keys.Children table)) (λ s. refuse_for table (find (λ c. not (goes c)) (children_seen s))) seen here)
+staying_seen look goes table seen child there is =
+    ap (λ c. run look (refuse_for table c)) is ∙ sym (run_fine look (look_at (keys.Children table)) (λ s. refuse_for table (find (λ c. not (goes c)) (children_seen s))) seen there)

@@ -13,9 +13,9 @@ ghost use Rattle.rules_outcome.specs.Decided.{there, HasIds};
 ghost use Rattle.rules_schema.specs.Drops.{is_table, children_seen, name_of_key, constraint_on, refuse_for, no_child_stays};
 ghost use Rattle.rules_schema.specs.Going.{goes};
 
-use dd_catalog::{Lookup, Object, Stop, look_at};
+use dd_catalog::{Lookup, Object, Stop, children_at, object_at};
 use dd_definitions::ForeignKeyDef;
-use dd_names::{Name, ObjName, ObjectKey, TryCopy};
+use dd_names::{Name, ObjName, ObjectKey};
 use rules_elements::is_same_object;
 use rules_named::stood;
 use rules_outcome::{After, Edit};
@@ -59,7 +59,7 @@ pub(crate) fn no_child_stays<L: Lookup>(
 ) -> Result<(), Stop>
     ensures { Follows (λ _. tt) result (run (sights (L.known look.now)) (no_child_stays (goes going.now) table.now)) }
 {
-    let object = look_at(look, &ObjectKey::Children(table.copy()?))?;
+    let object = children_at(look, table)?;
     let staying = child_staying(going, children_seen(object));
     refuse_for(alloc, table, staying, look)
 }
@@ -80,7 +80,8 @@ fn goes(going: &Going, object: &ObjName) -> bool
     }
 }
 
-fn children_seen(object: &Object) -> &[ObjName]
+/// The other tables with a foreign key to a table, as the object at its key of children tells them.
+pub fn children_seen(object: &Object) -> &[ObjName]
     ensures { result.now ≡ children_seen (sight object.now) }
 {
     match object {
@@ -102,7 +103,7 @@ fn refuse_for<L: Lookup>(
     match child {
         None => Ok(()),
         Some(child) => {
-            let object = look_at(look, &ObjectKey::Object(child.copy()?))?;
+            let object = object_at(look, child)?;
             let constraint = constraint_on(table, object);
             Err(rules_refusals::fk_cannot_drop_parent(alloc, &table.name, constraint, &child.name)?)
         }
@@ -110,7 +111,7 @@ fn refuse_for<L: Lookup>(
 }
 
 /// The name of the first constraint of the child that refers to the table.
-fn constraint_on<'a>(table: &ObjName, child: &'a Object) -> &'a str
+pub fn constraint_on<'a>(table: &ObjName, child: &'a Object) -> &'a str
     ensures { result.now ≡ constraint_on table.now (sight child.now) }
 {
     match child {

@@ -16,7 +16,7 @@ ghost use Rattle.rules_schema.specs.Going.{goes};
 
 use crate::children::{Going, edit_gone, is_table, no_child_stays};
 use crate::name_sets::{first_twice, set_of};
-use dd_catalog::{Lookup, Object, Stop, look_at};
+use dd_catalog::{Lookup, Object, Stop, object_at};
 use dd_names::{List, ObjName, ObjectKey, Text, TryCopy};
 use rules_named::{add_edit, all_named};
 use rules_outcome::{Decided, Edit, Edits};
@@ -91,12 +91,11 @@ fn pick_table<L: Lookup>(tables: &mut Tables, object: &ObjName, look: &L) -> Res
     ensures before { AllBefore (L.known look.now) tables.old.puts → IfOk result (λ _. AllBefore (L.known look.now) tables.new.puts) }
     ensures ids { AllIds (L.known look.now) tables.old.puts → IfOk result (λ _. AllIds (L.known look.now) tables.new.puts) }
 {
-    let key = ObjectKey::Object(object.copy()?);
-    let seen = look_at(look, &key)?;
+    let seen = object_at(look, object)?;
     if !is_table(seen) {
         return Ok(false);
     }
-    let edit = edit_gone(key, seen)?;
+    let edit = edit_gone(ObjectKey::Object(object.copy()?), seen)?;
     add_edit(&mut tables.puts, edit)?;
     tables.names.push(object.copy()?)?;
     Ok(true)

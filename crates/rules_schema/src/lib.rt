@@ -8,6 +8,7 @@ mod name_sets;
 mod schemas;
 mod sessions;
 
+pub use children::{children_seen, constraint_on};
 pub use drops::drop_table;
 pub use listings::{show_databases, show_tables};
 pub use schemas::{create_database, drop_database};

@@ -8,8 +8,8 @@ ghost use Rattle.dd_catalog.specs.Follow.{Follows, sights};
 ghost use Rattle.rules_outcome.specs.Decided.{Decides, AreBefore, HaveIds};
 ghost use Rattle.rules_schema.specs.Listings.{names_seen, row_of, names_listed, show_databases, chosen_schema, show_tables};
 
-use dd_catalog::{Lookup, Object, Stop, look_at};
-use dd_names::{List, Name, ObjectKey, Text, TryCopy};
+use dd_catalog::{Lookup, Object, Stop, look_at, objects_at};
+use dd_names::{List, Name, ObjectKey, Text};
 use rules_named::{first_given, schema_there};
 use rules_outcome::Decided;
 use sql_ast::SessionState;
@@ -42,7 +42,7 @@ pub fn show_tables<L: Lookup>(
 {
     let schema = chosen_schema(alloc, first_given(named, &session.current))?;
     schema_there(alloc, schema, look)?;
-    let object = look_at(look, &ObjectKey::Objects(schema.copy()?))?;
+    let object = objects_at(look, schema)?;
     let header = tables_header(alloc, schema)?;
     Ok(Decided::Rows(names_listed(alloc, header, names_seen(object))?))
 }

@@ -15,7 +15,7 @@ ghost use Rattle.rules_schema.specs.Schemas.{is_schema_present, create_database,
 
 use crate::children::{Going, edit_gone, is_table, no_child_stays};
 use crate::listings::names_seen;
-use dd_catalog::{Lookup, Object, Stop, look_at};
+use dd_catalog::{Lookup, Object, Stop, object_at, objects_at, schema_at};
 use dd_names::{List, Name, ObjName, ObjectKey, TryCopy, is_system_schema};
 use rules_named::add_edit;
 use rules_outcome::{After, Decided, Edit, Edits};
@@ -63,7 +63,7 @@ fn is_schema_present<L: Lookup>(name: &Name, look: &L) -> Result<bool, Stop>
     if is_system_schema(name.as_str()) {
         return Ok(true);
     }
-    let object = look_at(look, &ObjectKey::Schema(name.copy()?))?;
+    let object = schema_at(look, name)?;
     Ok(!is_nothing(object))
 }
 
@@ -86,7 +86,7 @@ pub fn drop_database<L: Lookup>(
     ensures before { IfOk result (λ d. AreBefore (L.known look.now) d) }
     ensures ids { IfOk result (λ d. HaveIds (L.known look.now) d) }
 {
-    let object = look_at(look, &ObjectKey::Schema(name.copy()?))?;
+    let object = schema_at(look, name)?;
     if is_nothing(object) {
         if if_exists {
             return Ok(Decided::Same);
@@ -109,7 +109,7 @@ fn schema_gone<L: Lookup>(
     ensures before { L.known look.now (ObjectKey.Schema name.now) ≡ Some standing.now → IfOk result (λ d. AreBefore (L.known look.now) d) }
     ensures ids { IfOk result (λ d. HaveIds (L.known look.now) d) }
 {
-    let object = look_at(look, &ObjectKey::Objects(name.copy()?))?;
+    let object = objects_at(look, name)?;
     let names = names_seen(object);
     if names.len() > 65_536 {
         return Err(rules_refusals::beyond_limit(alloc, "65536")?);
@@ -167,10 +167,9 @@ fn object_gone<L: Lookup>(alloc: Global, schema: &Name, name: &Name, look: &L) -
         schema: schema.copy()?,
         name: name.copy()?,
     };
-    let key = ObjectKey::Object(object.copy()?);
-    let seen = look_at(look, &key)?;
+    let seen = object_at(look, &object)?;
     may_go(alloc, schema, &object, seen, look)?;
-    Ok(edit_gone(key, seen)?)
+    Ok(edit_gone(ObjectKey::Object(object), seen)?)
 }
 
 /// A table has no child outside the schema.

@@ -1,5 +1,5 @@
 -- SHOW CREATE DATABASE, SHOW CREATE TABLE and SHOW CREATE VIEW. They change nothing.
-use Rattle.std.specs.Prelude.{ℕ, List}
+use Rattle.std.specs.Prelude.{ℕ, List, codes}
 use Rattle.dd_names.specs.declared.object_name.ObjName.{ObjName}
 use Rattle.dd_names.specs.declared.object_name.ObjectKey.TheVariants as keys
 use Rattle.dd_errors.specs.Errors.{ErrorValue}
@@ -26,7 +26,7 @@ object_shown object seen = refuse (no_such_table object)
 
 -- A table: 1347. Else as SHOW CREATE TABLE shows it.
 abbrev pub view_shown : ObjName → Sight → Walk ErrorValue Choice
-view_shown object (TableThere space parts) = refuse (wrong_object object)
+view_shown object (TableThere space parts) = refuse (wrong_object object (codes "VIEW"))
 view_shown object seen = object_shown object seen
 
 -- SHOW CREATE TABLE. No schema is written, and none is current: 1046. A schema that isn't there: 1049. Then the object is looked

@@ -10,8 +10,8 @@ ghost use Rattle.rules_outcome.specs.Decided.{Decides, AreBefore, HaveIds};
 ghost use Rattle.rules_show.specs.Shows.{show_create_database, object_shown, view_shown, show_create_table, show_create_view};
 
 use crate::listings::{database_listed, table_listed, view_listed};
-use dd_catalog::{Lookup, Object, Stop, look_at};
-use dd_names::{Name, ObjName, ObjectKey, TryCopy};
+use dd_catalog::{Lookup, Object, Stop, object_at};
+use dd_names::{Name, ObjName};
 use rules_named::{one_named, schema_there};
 use rules_outcome::Decided;
 use rules_refusals::{no_such_table, wrong_object};
@@ -48,7 +48,7 @@ pub fn show_create_table<L: Lookup>(
     ensures ids { IfOk result (λ d. HaveIds (L.known look.now) d) }
 {
     let object = one_named(alloc, &session.current, table, look)?;
-    let standing = look_at(look, &ObjectKey::Object(object.copy()?))?;
+    let standing = object_at(look, &object)?;
     object_shown(alloc, &object, standing)
 }
 
@@ -79,7 +79,7 @@ pub fn show_create_view<L: Lookup>(
     ensures ids { IfOk result (λ d. HaveIds (L.known look.now) d) }
 {
     let object = one_named(alloc, &session.current, view, look)?;
-    let standing = look_at(look, &ObjectKey::Object(object.copy()?))?;
+    let standing = object_at(look, &object)?;
     view_shown(alloc, &object, standing)
 }
 
@@ -90,7 +90,7 @@ fn view_shown(alloc: Global, object: &ObjName, standing: &Object) -> Result<Deci
     ensures ids { (known : Key → Option Standing) → IfOk result (λ d. HaveIds known d) }
 {
     match standing {
-        Object::Table { .. } => Err(wrong_object(alloc, object)?),
+        Object::Table { .. } => Err(wrong_object(alloc, object, "VIEW")?),
         _ => object_shown(alloc, object, standing),
     }
 }

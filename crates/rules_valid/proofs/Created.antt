@@ -120,20 +120,20 @@ none_shared cat space table parts new folded own q p has same other =
 -- ## The catalog
 
 -- the new table, or what was there
-abbrev IsNewOrOld : Catalog → ℕ → ObjName → TableParts → ObjName → Placed → Type 0
+abbrev pub IsNewOrOld : Catalog → ℕ → ObjName → TableParts → ObjName → Placed → Type 0
 IsNewOrOld cat space table parts q placed = ((q ≡ table) × (placed ≡ Table space parts)) ⊎ Has cat q placed
 
-new_or_old : (cat : Catalog) (space : ℕ) (table : ObjName) (parts : TableParts) (q : ObjName) (placed : Placed) → Has (with_table cat space table parts) q placed → IsNewOrOld cat space table parts q placed
+pub new_or_old : (cat : Catalog) (space : ℕ) (table : ObjName) (parts : TableParts) (q : ObjName) (placed : Placed) → Has (with_table cat space table parts) q placed → IsNewOrOld cat space table parts q placed
 new_or_old cat space table parts q placed has = on (is_same_object q table) refl (sym (get_inserted cat.objects table (Table space parts) q) ∙ has.is)
   where
     on : (b : Bool) → is_same_object q table ≡ b → cond b (Some (Table space parts)) (finite_map.get cat.objects q) ≡ Some placed → IsNewOrOld cat space table parts q placed
     on true same found = let made : placed ≡ Table space parts = cc in inl (same_object q table same, made)
     on false apart found = inr (record { is = found })
 
-same_space : (a b : ℕ) (parts others : TableParts) → Table a parts ≡ Table b others → a ≡ b
+pub same_space : (a b : ℕ) (parts others : TableParts) → Table a parts ≡ Table b others → a ≡ b
 same_space a b parts others is = cc
 
-same_parts : (a b : ℕ) (parts others : TableParts) → Table a parts ≡ Table b others → parts ≡ others
+pub same_parts : (a b : ℕ) (parts others : TableParts) → Table a parts ≡ Table b others → parts ≡ others
 same_parts a b parts others is = cc
 
 module _ (cat : Catalog) (space : ℕ) (table : ObjName) (parts : TableParts) (valid : IsValid cat) (fresh : IsNewSpace cat space) (new : IsNewTable cat table parts) where

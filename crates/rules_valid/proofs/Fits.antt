@@ -235,8 +235,8 @@ one_fits cat table valid absent parts words next so_far is =
     let (columns, found, after_columns) = bind_fine (all_of cat) (key_columns parts.columns words.columns) _ next after_some in
     let (name, named, after_name) = bind_fine (all_of cat) (constraint_name parts words.constraint) _ next after_columns in
     let (indexed, made, after_index) = bind_fine (all_of cat) (with_key_index parts words columns) _ next after_name in
-    let (key, fits, last) = bind_fine (all_of cat) (foreign_key_of indexed (key_named words parts.name name columns)) _ next after_index in
-    let (parent, fit) = foreign_keys_are_fit (all_of cat) indexed (key_named words parts.name name columns) key fits in
+    let (key, fits, last) = bind_fine (all_of cat) (foreign_key_of indexed words.columns (key_named words parts.name name columns)) _ next after_index in
+    let (parent, fit) = foreign_keys_are_fit (all_of cat) indexed words.columns (key_named words parts.name name columns) key fits in
     subst (IsFitSoFar cat table) (fine_is last)
     (with_key_fit cat table parts indexed (key_named words parts.name name columns) key parent valid absent so_far (key_index (all_of cat) parts words columns indexed made) fit)
 

@@ -22,3 +22,5 @@ mod RenamedPair
 mod RenamedNamed
 pub mod RenamedAll
 pub mod Sessions
+pub mod Likes
+pub mod Emptied

@@ -26,13 +26,13 @@ use Rattle.rules_valid.specs.Keeps.{KeepsNamed}
 use Rattle.rules_valid.proofs.Spaces.{Ends, ends_after, ends_so}
 
 -- the session behind the choice is so
-abbrev LeavesNamed : SessionState → Choice → Type 0
+abbrev pub LeavesNamed : SessionState → Choice → Type 0
 LeavesNamed session choice = session_is_named session ≡ true → session_is_named (session_behind choice session) ≡ true
 
-keeps_so : (session : SessionState) (check : Walk ErrorValue Choice) → Ends (LeavesNamed session) check → KeepsNamed session check
+pub keeps_so : (session : SessionState) (check : Walk ErrorValue Choice) → Ends (LeavesNamed session) check → KeepsNamed session check
 keeps_so session check ends = record { named = λ look choice named is. ends_so (LeavesNamed session) look check choice ends is named }
 
-unless_leaves : (session : SessionState) (skipped : Bool) (error : ErrorValue) → Ends (LeavesNamed session) (unless skipped error)
+pub unless_leaves : (session : SessionState) (skipped : Bool) (error : ErrorValue) → Ends (LeavesNamed session) (unless skipped error)
 unless_leaves session true error = λ named. named
 unless_leaves session false error = tt
 

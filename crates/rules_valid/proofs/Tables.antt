@@ -28,7 +28,7 @@ use Rattle.rules_valid.proofs.Resolved.{one_is_named}
 
 -- ## The name
 
-schema_is_there : (cat : Catalog) (name : List ℕ) → run (all_of cat) (schema_there name) ≡ fine tt → finite_map.contains_key cat.schemas name ≡ true
+pub schema_is_there : (cat : Catalog) (name : List ℕ) → run (all_of cat) (schema_there name) ≡ fine tt → finite_map.contains_key cat.schemas name ≡ true
 unfolding schema_there
 schema_is_there cat name is = on (finite_map.contains_key cat.schemas name) (not_refused (all_of cat) (is_nothing (schema_seen (finite_map.contains_key cat.schemas name))) (refusals.bad_db name) tt is)
   where
@@ -43,7 +43,7 @@ named_there cat current ref table is =
     let (_, there, last) = bind_fine (all_of cat) (schema_there object.schema) _ table after_name in
     subst (λ (o : ObjName). finite_map.contains_key cat.schemas o.schema ≡ true) (fine_is last) (schema_is_there cat object.schema there)
 
-nothing_there : (found : Option Placed) → is_nothing (object_seen found) ≡ true → found ≡ None
+pub nothing_there : (found : Option Placed) → is_nothing (object_seen found) ≡ true → found ≡ None
 nothing_there None is = refl
 nothing_there (Some (Table space parts)) is = cc
 nothing_there (Some (View parts)) is = cc

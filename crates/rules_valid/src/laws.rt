@@ -15,6 +15,8 @@ ghost use Rattle.rules_schema.specs.Sessions.{use_schema, set_tries};
 ghost use Rattle.dd_catalog.specs.Walks.{fine, run};
 ghost use Rattle.rules_outcome.specs.Choices.{Choice, catalog_behind};
 ghost use Rattle.rules_create.specs.Tables.{create_table};
+ghost use Rattle.rules_tables.specs.Likes.{create_like};
+ghost use Rattle.rules_tables.specs.Truncates.{truncate};
 ghost use Rattle.rules_rename.specs.Renames.{rename};
 ghost use Rattle.rules_valid.specs.Keeps.{KeepsValid, KeepsNamed};
 
@@ -37,10 +39,13 @@ pub fn schemas_keep_valid()
     ensures dropped { (session : SessionState) (if_exists : Bool) (name : List ℕ) → KeepsValid (drop_database session if_exists name) }
 {}
 
-/// CREATE TABLE that says names and DROP TABLE leave a valid catalog valid. It does nothing when it runs.
+/// CREATE TABLE that says names, also LIKE another, TRUNCATE TABLE and DROP TABLE leave a valid catalog valid. It does nothing when
+/// it runs.
 pub fn tables_keep_valid()
     ensures created { (session : SessionState) (if_not_exists : Bool) (ref : ObjRef) (elements : List Element) → session_is_named session ≡ true → is_object_named ref ≡ true
         → list_all is_element_named elements ≡ true → KeepsValid (create_table session if_not_exists ref elements) }
+    ensures liked { (session : SessionState) (if_not_exists : Bool) (ref source : ObjRef) → session_is_named session ≡ true → is_object_named ref ≡ true → KeepsValid (create_like session if_not_exists ref source) }
+    ensures emptied { (session : SessionState) (ref : ObjRef) → KeepsValid (truncate session ref) }
     ensures dropped { (session : SessionState) (if_exists : Bool) (refs : List ObjRef) → KeepsValid (drop_table session if_exists refs) }
 {}
 
@@ -60,6 +65,8 @@ pub fn sessions_stay_named()
     ensures schema_created { (session : SessionState) (if_not_exists : Bool) (name : List ℕ) → KeepsNamed session (create_database session if_not_exists name) }
     ensures schema_dropped { (session : SessionState) (if_exists : Bool) (name : List ℕ) → KeepsNamed session (drop_database session if_exists name) }
     ensures table_created { (session : SessionState) (if_not_exists : Bool) (ref : ObjRef) (elements : List Element) → KeepsNamed session (create_table session if_not_exists ref elements) }
+    ensures table_liked { (session : SessionState) (if_not_exists : Bool) (ref source : ObjRef) → KeepsNamed session (create_like session if_not_exists ref source) }
+    ensures table_emptied { (session : SessionState) (ref : ObjRef) → KeepsNamed session (truncate session ref) }
     ensures tables_dropped { (session : SessionState) (if_exists : Bool) (refs : List ObjRef) → KeepsNamed session (drop_table session if_exists refs) }
     ensures renamed { (session : SessionState) (pairs : List RenamePair) → KeepsNamed session (rename session pairs) }
 {}

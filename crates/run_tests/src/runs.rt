@@ -69,14 +69,14 @@ const SHOWN: (&str, &str, usize) = (
 /// Inputs of which nothing is answered.
 const REFUSED: [(&str, Status); 11] = [
     (
-        "session a\nTRUNCATE t;",
+        "session a\nTABLE information_schema.tables;",
         Status::NotBuilt {
             session: 0,
             number: 0,
         },
     ),
     (
-        "session a\nSHOW DATABASES; x; TRUNCATE t; session b\nUSE d;",
+        "session a\nSHOW DATABASES; x; ALTER TABLE t FORCE; session b\nUSE d;",
         Status::NotBuilt {
             session: 0,
             number: 2,

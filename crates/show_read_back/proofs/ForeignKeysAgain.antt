@@ -53,22 +53,22 @@ name_again look parts before key stands apart =
     run_fine look (look_at (keys.Constraint parts.name.schema (fold key.name))) _ stands.owner (run_seen look (keys.Constraint parts.name.schema (fold key.name)) stands.owner stands.looked)
     ∙ ap (λ (b : Bool). run look (refuse_if b (fk_dup_name key.name))) (or_from (is_owned_elsewhere parts.name stands.owner) (has_constraint_named before key.name) stands.free apart)
 
-key_again : (look : Look) (parts : TableParts) (before : List ForeignKeyDef) (key : ForeignKeyDef) → StandsIn look parts key → has_constraint_named before key.name ≡ false → run look (foreign_key_of (so_far parts before) key) ≡ fine key
+key_again : (look : Look) (parts : TableParts) (before : List ForeignKeyDef) (written : List (List ℕ)) (key : ForeignKeyDef) → StandsIn look parts key → has_constraint_named before key.name ≡ false → run look (foreign_key_of (so_far parts before) written key) ≡ fine key
 unfolding foreign_key_of
-key_again look parts before key stands apart =
+key_again look parts before written key stands apart =
     let seen = parent_again look parts before key.parent stands.parent stands.stands in
     let there : TableParts = seen.there in
     let indexed : has_index_from there.indexes key.parent_columns ≡ true = ap (λ is. has_index_from is key.parent_columns) seen.alike.indexes ∙ index_from stands.parent.indexes key.parent_columns stands.indexed in
-    let paired = paired_again parts stands.parent key stands.paired in
-    let even : odd_pair_refused key.name (first_odd_pair parts.columns there.columns key.columns key.parent_columns) ≡ None =
-    ap (λ cs. odd_pair_refused key.name (first_odd_pair parts.columns cs key.columns key.parent_columns)) seen.alike.columns ∙ paired.even in
+    let paired = paired_again parts stands.parent written key stands.paired in
+    let even : odd_pair_refused written key.name (first_odd_pair parts.columns there.columns key.columns key.parent_columns) ≡ None =
+    ap (λ cs. odd_pair_refused written key.name (first_odd_pair parts.columns cs key.columns key.parent_columns)) seen.alike.columns ∙ paired.even in
     let spells : map (spelled there.columns) key.parent_columns ≡ key.parent_columns =
     ap (λ cs. map (spelled cs) key.parent_columns) seen.alike.columns ∙ spelled_again stands.parent key.parent_columns stands.well stands.indexed in
     let answer : List (List ℕ) → Found ErrorValue ForeignKeyDef = λ cs. fine (record key { parent_columns = cs }) in
     run_fine look (parent_of (so_far parts before) key.parent) _ there seen.seen
     ∙ run_passes look (not (has_index_from there.indexes key.parent_columns)) (fk_no_index_parent key.name key.parent.name) _ (ap not indexed)
-    ∙ run_passes_some look (odd_pair_refused key.name (first_odd_pair parts.columns there.columns key.columns key.parent_columns)) _ even
-    ∙ run_passes_some look (set_null_refused parts.columns key) _ paired.null
+    ∙ run_passes_some look (odd_pair_refused written key.name (first_odd_pair parts.columns there.columns key.columns key.parent_columns)) _ even
+    ∙ run_passes_some look (set_null_refused written parts.columns key) _ paired.null
     ∙ run_fine look (name_is_free (so_far parts before) key.name) _ tt (name_again look parts before key stands apart)
     ∙ ap answer spells
 
@@ -102,8 +102,8 @@ one_again look parts before key after distinct formed stands apart ordered =
     let f = formed_parts parts key formed in
     let table : TableParts = so_far parts before in
     let words : FkWords = foreign_key_said parts.name.schema key in
-    let made : run look (foreign_key_of table (key_named words parts.name key.name key.columns)) ≡ fine key =
-    subst (λ (k : ForeignKeyDef). run look (foreign_key_of table k) ≡ fine key) (sym (key_is parts.name key)) (key_again look parts before key stands (apart_before is_same_constraint before key after apart)) in
+    let made : run look (foreign_key_of table key.columns (key_named words parts.name key.name key.columns)) ≡ fine key =
+    subst (λ (k : ForeignKeyDef). run look (foreign_key_of table key.columns k) ≡ fine key) (sym (key_is parts.name key)) (key_again look parts before key.columns key stands (apart_before is_same_constraint before key after apart)) in
     let answer : List ForeignKeyDef → Found ErrorValue TableParts = λ ks. fine (so_far parts ks) in
     run_passes look (not (length key.columns == length key.parent_columns)) (refusals.wrong_fk_def (name_in_text (Some key.name))) _ (ap not f.even)
     ∙ run_passes look (nat_lt 16 (length key.columns)) too_many_key_parts _ (not_over 16 (length key.columns) f.fits.few)
@@ -111,7 +111,7 @@ one_again look parts before key after distinct formed stands apart ordered =
     ∙ run_then look (key_columns parts.columns key.columns) _ key.columns (names_again parts.columns key.columns distinct f.fits.distinct f.fits.there)
     ∙ run_then look (constraint_name table (Some key.name)) _ key.name (given_name table key.name)
     ∙ run_then look (with_key_index table words key.columns) _ table (index_there table words key.columns f.indexed)
-    ∙ run_fine look (foreign_key_of table (key_named words parts.name key.name key.columns)) _ key made
+    ∙ run_fine look (foreign_key_of table key.columns (key_named words parts.name key.name key.columns)) _ key made
     ∙ ap answer (put_last before key after ordered)
 
 -- ## All foreign keys

@@ -127,20 +127,20 @@ nothing : {A : Type 0} (o : Option A) → is_none o ≡ true → o ≡ None
 nothing None is = refl
 nothing (Some x) is = absurd cc
 
-pub record ArePaired (parts parent : TableParts) (key : ForeignKeyDef) : Type 0 where
-  pub even : odd_pair_refused key.name (first_odd_pair parts.columns parent.columns key.columns key.parent_columns) ≡ None
-  pub null : set_null_refused parts.columns key ≡ None
+pub record ArePaired (parts parent : TableParts) (written : List (List ℕ)) (key : ForeignKeyDef) : Type 0 where
+  pub even : odd_pair_refused written key.name (first_odd_pair parts.columns parent.columns key.columns key.parent_columns) ≡ None
+  pub null : set_null_refused written parts.columns key ≡ None
 
-null_free : (constraint : List ℕ) (nulls : Bool) (first : Option (List ℕ)) → (not nulls || is_none first) ≡ true → cond nulls (not_null_refused constraint first) None ≡ None
-null_free constraint false first is = refl
-null_free constraint true None is = refl
-null_free constraint true (Some column) is = absurd cc
+null_free : (written : List (List ℕ)) (constraint : List ℕ) (nulls : Bool) (first : Option (List ℕ)) → (not nulls || is_none first) ≡ true → cond nulls (not_null_refused written constraint first) None ≡ None
+null_free written constraint false first is = refl
+null_free written constraint true None is = refl
+null_free written constraint true (Some column) is = absurd cc
 
-pub paired_again : (parts parent : TableParts) (key : ForeignKeyDef) → are_columns_paired parts parent key ≡ true → ArePaired parts parent key
+pub paired_again : (parts parent : TableParts) (written : List (List ℕ)) (key : ForeignKeyDef) → are_columns_paired parts parent key ≡ true → ArePaired parts parent written key
 unfolding are_columns_paired
-paired_again parts parent key is =
+paired_again parts parent written key is =
     let (even, null) = and_parts (is_none (first_odd_pair parts.columns parent.columns key.columns key.parent_columns)) (not (sets_null key) || is_none (first_not_null parts.columns key.columns)) is in
     record {
-      even = ap (odd_pair_refused key.name) (nothing (first_odd_pair parts.columns parent.columns key.columns key.parent_columns) even);
-      null = null_free key.name (sets_null key) (first_not_null parts.columns key.columns) null;
+      even = ap (odd_pair_refused written key.name) (nothing (first_odd_pair parts.columns parent.columns key.columns key.parent_columns) even);
+      null = null_free written key.name (sets_null key) (first_not_null parts.columns key.columns) null;
     }

@@ -32,10 +32,10 @@ fn whole(alloc: Global, input: Input<'_>) -> Result<Statement, ReadFault<'_>>
 {
     let (statement, rest) = statement_words(alloc, input)?;
     if is_done(rest) {
-        Ok(statement)
-    } else {
-        Err(ReadFault::Syntax { rest })
+        return Ok(statement);
     }
+    drop(statement);
+    Err(ReadFault::Syntax { rest })
 }
 
 /// The statement that a text is by its tokens, or its first fault.

@@ -27,9 +27,9 @@ returns-in-Err-Refused c =
     let error = c.in-Err-Refused.error in
     let is = refused_found (outcome_over state.catalog state.session c.args.statement.now) error
     (subst (λ (stop : Stop). DecidesIf (Err stop) (outcome_over state.catalog state.session c.args.statement.now)) c.in-Err-Refused.field-0-is c.in-Err-Refused.ensures) in
-    record { found = refused error; is = is; settles = c.unchanged.ensures (refused error) refl tt refl }
+    record { found = refused error; is = is; settles = c.unchanged.ensures (refused error) refl tt refl refl }
 
 pub returns-in-Err-Memory : goal.returns-in-Err-Memory
 returns-in-Err-Memory c =
     let there : Outcome c.args.state c.args.statement.now = outcome_there c.args.state c.args.statement.now c.requires in
-    record { found = there.found; is = there.is; settles = c.unchanged-in-Err-Memory.ensures there.found (memory_answers there.found there.settled) tt refl }
+    record { found = there.found; is = there.is; settles = c.unchanged-in-Err-Memory.ensures there.found (memory_answers there.found there.settled) tt refl refl }

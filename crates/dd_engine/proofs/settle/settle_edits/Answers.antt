@@ -6,7 +6,4 @@ use Rattle.dd_engine.proofs.settle.settle_edits.Goals as goal
 pub returns-then-next : goal.returns-then-next
 returns-then-next c =
     let full : c.args.state.next ≡ 4294967295 = omega (arith, c.if-next.true) in
-    c.unchanged.ensures (fine (choice_of c.args.edits)) (sym c.if-numbered.ensures, full) refl refl
-
-pub returns-in-Err : goal.returns-in-Err
-returns-in-Err c = c.unchanged-in-Err.ensures (fine (choice_of c.args.edits)) tt tt refl
+    c.unchanged.ensures (fine (choice_of c.args.edits)) (sym c.if-numbered.ensures, full) refl refl refl

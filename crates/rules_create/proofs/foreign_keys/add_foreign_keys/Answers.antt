@@ -1,27 +1,20 @@
-use Rattle.std.proofs.Common.{◌<◌, ◌≤◌, length, arith, sym}
+use Rattle.std.proofs.Common.{◌≡◌, [], sym, ◌∙◌, ap}
+use Rattle.std.specs.List.{flat_map}
 use Rattle.std.proofs.lemmas.Result.{err_from_is_err_and}
 use Rattle.dd_catalog.specs.Follow.{sights}
-use Rattle.dd_catalog.specs.LoopLaws.{over_step, over_stop, over_end}
-use Rattle.rules_create.specs.Tables.{foreign_key_in, one_foreign_key}
-use Rattle.rules_create.specs.Made.{over_each}
-use Rattle.rules_create.proofs.Flat.{over_flat}
+use Rattle.rules_create.proofs.Linked.{over_stop, over_fine}
 use Rattle.rules_create.proofs.foreign_keys.add_foreign_keys.Goals as goal
 
-pub elements-init : goal.elements-init
-elements-init g c = sym (over_flat (sights (g.L.Lookup.known c.args.look.now)) one_foreign_key foreign_key_in c.args.parts.now c.args.elements.now)
+pub each_foreign_key-requires : goal.each_foreign_key-requires
+each_foreign_key-requires g c = record { stands = c.requires; ordered = c.in_ok-keys.ensures.ordered }
 
-pub returns-in_err-foreign_key_if : goal.returns-in_err-foreign_key_if
-returns-in_err-foreign_key_if g c =
-    let lt : c.elements.element-index < length c.args.elements.now = omega arith in
-    let p = err_from_is_err_and c.from_residual.result c.from_residual.ensures.1 in
-    rw (p.1, p.2) (over_stop c.in_err-foreign_key_if.field-0.0 (sights (g.L.Lookup.known c.args.look.now)) (over_each one_foreign_key foreign_key_in) c.args.elements.now c.elements.element-index c.element-item.result c.elements.parts _ lt c.element-item.is c.in_err-foreign_key_if.ensures c.elements.invariant)
-
-pub elements-preserved : goal.elements-preserved
-elements-preserved g c =
-    let lt : c.elements.element-index < length c.args.elements.now = omega arith in
-    over_step (sights (g.L.Lookup.known c.args.look.now)) (over_each one_foreign_key foreign_key_in) c.args.elements.now c.elements.element-index c.element-item.result c.elements.parts c.foreign_key_if.new.parts _ lt c.element-item.is c.in_ok-foreign_key_if.ensures c.elements.invariant
+pub returns-in_err-each_foreign_key : goal.returns-in_err-each_foreign_key
+returns-in_err-each_foreign_key g c =
+    let look = sights (g.L.Lookup.known c.args.look.now) in
+    let p = err_from_is_err_and c.from_residual-in_err-each_foreign_key.result c.from_residual-in_err-each_foreign_key.ensures.1 in
+    rw (p.1, p.2) (over_stop c.in_err-each_foreign_key.field-0.0 look c.args.draft.now c.in_ok-keys.keys c.args.elements.now c.requires c.in_ok-keys.ensures.none c.in_err-each_foreign_key.ensures)
 
 pub returns : goal.returns
 returns g c =
-    let le : length c.args.elements.now ≤ c.elements.element-index = omega arith in
-    over_end (sights (g.L.Lookup.known c.args.look.now)) (over_each one_foreign_key foreign_key_in) c.args.elements.now c.elements.element-index c.elements.parts _ le c.elements.invariant
+    let look = sights (g.L.Lookup.known c.args.look.now) in
+    over_fine look c.args.draft.now c.each_foreign_key.new.draft c.in_ok-keys.keys c.each_foreign_key.new.keys c.args.elements.now c.in_ok-draft.field-0 c.requires c.in_ok-keys.ensures.none c.in_ok-draft.ensures c.in_ok-each_foreign_key.ensures

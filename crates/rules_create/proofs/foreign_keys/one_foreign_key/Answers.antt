@@ -1,15 +1,32 @@
-use Rattle.std.specs.Prelude.{◌≡◌, ◌≤◌, length}
-use Rattle.std.proofs.Common.{ap, arith}
+use Rattle.std.proofs.Common.{sym, ◌∙◌, subst}
 use Rattle.std.proofs.lemmas.Result.{err_from_is_err_and}
-use Rattle.dd_catalog.specs.Follow.{sights}
-use Rattle.rules_create.proofs.Parts.{columns_stop}
+use Rattle.dd_catalog.specs.Follow.{sights, Stops}
+use Rattle.rules_create.specs.Drafts.{whole}
+use Rattle.rules_create.proofs.Parts.{allowed_stop, same_columns, columns_stop, columns_settled, rest_stop}
 use Rattle.rules_create.proofs.foreign_keys.one_foreign_key.Goals as goal
 
-pub returns-in_err-foreign_key_on : goal.returns-in_err-foreign_key_on
-returns-in_err-foreign_key_on g c =
+pub returns-in_err-allow_columns-clause-exact : goal.returns-in_err-allow_columns-clause-exact
+returns-in_err-allow_columns-clause-exact g c =
     let look = sights (g.L.Lookup.known c.args.look.now) in
+    let p = err_from_is_err_and c.from_residual.result c.from_residual.ensures.1 in
+    rw (p.1, p.2) (allowed_stop c.in_err-allow_columns.field-0.0 look (whole c.args.draft.now c.args.keys.now) c.args.words.now (c.in_err-allow_columns.ensures look))
+
+pub returns-in_err-columns-clause-exact : goal.returns-in_err-columns-clause-exact
+returns-in_err-columns-clause-exact g c =
+    let look = sights (g.L.Lookup.known c.args.look.now) in
+    let same = same_columns look (whole c.args.draft.now c.args.keys.now) c.args.words.now c.as_slice.result.now c.as_slice-2.result.now c.as_slice.ensures c.as_slice-2.ensures in
+    let p = err_from_is_err_and c.from_residual-in_err-columns.result c.from_residual-in_err-columns.ensures.1 in
+    rw (p.1, p.2) (columns_stop c.in_err-columns.field-0.0 look (whole c.args.draft.now c.args.keys.now) c.args.words.now (c.in_ok-allow_columns.ensures look) (subst (Stops c.in_err-columns.field-0.0) same (c.in_err-columns.ensures look)))
+
+pub returns-in_err-foreign_key_on-clause-exact : goal.returns-in_err-foreign_key_on-clause-exact
+returns-in_err-foreign_key_on-clause-exact g c =
+    let look = sights (g.L.Lookup.known c.args.look.now) in
+    let same = same_columns look (whole c.args.draft.now c.args.keys.now) c.args.words.now c.as_slice.result.now c.as_slice-2.result.now c.as_slice.ensures c.as_slice-2.ensures in
     let p = err_from_is_err_and c.from_residual-in_err-foreign_key_on.result c.from_residual-in_err-foreign_key_on.ensures.1 in
-    let same : length c.as_slice-names.result.now ≡ length c.args.words.now.columns = ap length c.as_slice-names.ensures in
-    let even : length c.args.words.now.columns ≡ length c.args.words.now.parent_columns = omega (arith, same, c.len.ensures, c.if-names-len.false) in
-    let few : length c.args.words.now.columns ≤ 16 = omega (arith, same, c.if-names-gt16.false) in
-    rw (p.1, p.2) (columns_stop c.in_err-foreign_key_on.field-0.0 look c.args.parts.now c.args.words.now c.as_slice.result.now c.as_slice-names.result.now c.in_ok-columns.columns c.as_slice.ensures c.as_slice-names.ensures even few (c.in_ok-some_columns.ensures look) (c.in_ok-columns.ensures look) c.in_err-foreign_key_on.ensures)
+    rw (p.1, p.2) (rest_stop c.in_err-foreign_key_on.field-0.0 _ _ (columns_settled look (whole c.args.draft.now c.args.keys.now) c.args.words.now c.in_ok-columns.columns (c.in_ok-allow_columns.ensures look) (sym same ∙ c.in_ok-columns.ensures look)) c.in_err-foreign_key_on.ensures.exact)
+
+pub returns-clause-exact : goal.returns-clause-exact
+returns-clause-exact g c =
+    let look = sights (g.L.Lookup.known c.args.look.now) in
+    let same = same_columns look (whole c.args.draft.now c.args.keys.now) c.args.words.now c.as_slice.result.now c.as_slice-2.result.now c.as_slice.ensures c.as_slice-2.ensures in
+    columns_settled look (whole c.args.draft.now c.args.keys.now) c.args.words.now c.in_ok-columns.columns (c.in_ok-allow_columns.ensures look) (sym same ∙ c.in_ok-columns.ensures look) ∙ c.in_ok-foreign_key_on.ensures.exact

@@ -8,20 +8,26 @@ use Rattle.rules_create.proofs.Flat.{over_flat}
 use Rattle.rules_create.proofs.keys.add_written_keys.Goals as goal
 
 pub elements-init : goal.elements-init
-elements-init c look = sym (over_flat look (one_key (flat_map column_in c.args.elements.now)) key_in c.args.parts.now c.args.elements.now)
+elements-init c = record {
+  so_far = λ look. sym (over_flat look (one_key (flat_map column_in c.args.elements.now)) key_in c.args.draft.now.parts c.args.elements.now);
+  draft = c.requires;
+}
 
-pub returns-in_err-key_if : goal.returns-in_err-key_if
-returns-in_err-key_if c look =
+pub returns-in_err-key_if-clause-exact : goal.returns-in_err-key_if-clause-exact
+returns-in_err-key_if-clause-exact c look =
     let lt : c.elements.element-index < length c.args.elements.now = omega arith in
     let p = err_from_is_err_and c.from_residual.result c.from_residual.ensures.1 in
-    rw (p.1, p.2) (over_stop c.in_err-key_if.field-0.0 look (over_each (one_key (flat_map column_in c.args.elements.now)) key_in) c.args.elements.now c.elements.element-index c.element-item.result c.elements.parts _ lt c.element-item.is (c.in_err-key_if.ensures look) (c.elements.invariant look))
+    rw (p.1, p.2) (over_stop c.in_err-key_if.field-0.0 look (over_each (one_key (flat_map column_in c.args.elements.now)) key_in) c.args.elements.now c.elements.element-index c.element-item.result c.elements.draft.parts _ lt c.element-item.is (c.in_err-key_if.ensures.exact look) (c.elements.invariant.so_far look))
 
 pub elements-preserved : goal.elements-preserved
-elements-preserved c look =
+elements-preserved c =
     let lt : c.elements.element-index < length c.args.elements.now = omega arith in
-    over_step look (over_each (one_key (flat_map column_in c.args.elements.now)) key_in) c.args.elements.now c.elements.element-index c.element-item.result c.elements.parts c.key_if.new.parts _ lt c.element-item.is (c.in_ok-key_if.ensures look) (c.elements.invariant look)
+    record {
+      so_far = λ look. over_step look (over_each (one_key (flat_map column_in c.args.elements.now)) key_in) c.args.elements.now c.elements.element-index c.element-item.result c.elements.draft.parts c.key_if.new.draft.parts _ lt c.element-item.is (c.in_ok-key_if.ensures.exact look) (c.elements.invariant.so_far look);
+      draft = c.in_ok-key_if.ensures.draft;
+    }
 
-pub returns : goal.returns
-returns c look =
+pub returns-clause-exact : goal.returns-clause-exact
+returns-clause-exact c look =
     let le : length c.args.elements.now ≤ c.elements.element-index = omega arith in
-    over_end look (over_each (one_key (flat_map column_in c.args.elements.now)) key_in) c.args.elements.now c.elements.element-index c.elements.parts _ le (c.elements.invariant look)
+    over_end look (over_each (one_key (flat_map column_in c.args.elements.now)) key_in) c.args.elements.now c.elements.element-index c.elements.draft.parts _ le (c.elements.invariant.so_far look)

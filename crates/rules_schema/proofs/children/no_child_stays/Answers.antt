@@ -10,4 +10,4 @@ pub returns : goal.returns
 returns g c =
     let look = sights (g.L.Lookup.known c.args.look.now) in
     let leaves = goes c.args.going.now in
-    rw (← staying_seen look leaves c.args.table.now _ (sight c.in_ok-object.object.now) _ c.in_ok-copy.ensures c.in_ok-object.ensures.seen (c.child_staying-staying.ensures ∙ ap (find (λ child. not (leaves child))) c.children_seen.ensures)) c.refuse_for.ensures
+    rw (← staying_seen look leaves c.args.table.now (sight c.in_ok-object.object.now) _ c.in_ok-object.ensures.seen (c.child_staying-staying.ensures ∙ ap (find (λ child. not (leaves child))) c.children_seen.ensures)) c.refuse_for.ensures

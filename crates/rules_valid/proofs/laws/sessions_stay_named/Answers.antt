@@ -1,3 +1,5 @@
+use Rattle.rules_valid.proofs.Emptied.{truncate_leaves}
+use Rattle.rules_valid.proofs.Likes.{create_like_leaves}
 use Rattle.rules_valid.proofs.Sessions.{use_leaves, set_leaves, databases_leave, tables_leave, create_database_leaves, drop_database_leaves, create_table_leaves, drop_table_leaves, rename_leaves}
 use Rattle.rules_valid.proofs.laws.sessions_stay_named.Goals as goal
 
@@ -27,3 +29,9 @@ returns-clause-tables_dropped c = drop_table_leaves
 
 pub returns-clause-renamed : goal.returns-clause-renamed
 returns-clause-renamed c = rename_leaves
+
+pub returns-clause-table_liked : goal.returns-clause-table_liked
+returns-clause-table_liked c = create_like_leaves
+
+pub returns-clause-table_emptied : goal.returns-clause-table_emptied
+returns-clause-table_emptied c = truncate_leaves

@@ -8,4 +8,4 @@ pub invariant_of-result : goal.invariant_of-result
 invariant_of-result c =
     let state = c.first_state.result in
     let told = c.first_state.ensures in
-    subst (λ (l : List Entry). IsSound (Some state) l) (sym c.new.ensures.items) (begins state told.catalog told.session told.next)
+    subst (λ (l : List Entry). IsSound (Some state) l) (sym c.new.ensures.items) (begins state told.catalog told.session told.next told.room)

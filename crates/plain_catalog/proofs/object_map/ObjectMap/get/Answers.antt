@@ -7,4 +7,4 @@ use Rattle.plain_catalog.proofs.object_map.ObjectMap.get.Goals as goal
 pub returns : goal.returns
 returns c =
     let q = c.args.name.now in
-    c.get.ensures.value ∙ sym (got_at c.self.inside.objects.entries q c.self.invariant) ∙ ap (λ (m : finite_map.FinMap object_cmp Placed). finite_map.get m q) c.self.view_is
+    c.get.ensures.value ∙ sym (got_at c.self.inside.objects.entries q c.self.invariant.0) ∙ ap (λ (m : finite_map.FinMap object_cmp Placed). finite_map.get m q) c.self.view_is

@@ -6,4 +6,4 @@ use Rattle.plain_catalog.proofs.object_map.ObjectMap.iter.Goals as goal
 
 pub returns-clause-rest : goal.returns-clause-rest
 returns-clause-rest c =
-    c.iter.ensures.rest ∙ sym (entries_of c.self.inside.objects.entries c.self.invariant) ∙ ap (λ (m : finite_map.FinMap object_cmp Placed). finite_map.entries m) c.self.view_is
+    c.iter.ensures.rest ∙ sym (entries_of c.self.inside.objects.entries c.self.invariant.0) ∙ ap (λ (m : finite_map.FinMap object_cmp Placed). finite_map.entries m) c.self.view_is

@@ -1,5 +1,0 @@
-use Rattle.dd_engine.specs.Known.{IsKnown}
-use Rattle.dd_engine.proofs.decided_over.foreseen.Given as goal
-
-abbrev pub invariant-rounds : goal.invariant-rounds
-invariant-rounds l = IsKnown l.catalog l.part

@@ -1,0 +1,5 @@
+pub mod Folded
+pub mod KeyOrder
+pub mod KeysOf
+pub mod Kept
+pub mod Found

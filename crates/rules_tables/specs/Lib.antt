@@ -1,0 +1,3 @@
+pub mod Likes
+pub mod Named
+pub mod Truncates
