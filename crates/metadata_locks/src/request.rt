@@ -29,8 +29,8 @@ impl TryCopy for LockKey {
     }
 }
 
-/// How a key is locked.
-#[derive(Clone, Copy, Drop, PartialEq, Eq, Debug)]
+/// How a key is locked. The modes are in this order.
+#[derive(Clone, Copy, Drop, PartialEq, Eq, PartialOrd, Ord, Debug)]
 pub enum Mode {
     /// Something within may be locked or changed.
     IX,
@@ -40,8 +40,8 @@ pub enum Mode {
     X,
 }
 
-/// A lock that a statement asks for.
-#[derive(Drop, PartialEq, Eq)]
+/// A lock that a statement asks for. Requests are in the order of their keys, and those for one key in that of their modes.
+#[derive(Drop, PartialEq, Eq, PartialOrd, Ord)]
 pub struct Request {
     /// What is to be locked.
     pub key: LockKey,

@@ -1,0 +1,4 @@
+pub mod Loop
+pub mod Again
+pub mod Repeats
+pub mod Ordered

@@ -1,0 +1,9 @@
+pub mod Entries
+pub mod Catalogs
+pub mod Stays
+pub mod Claimed
+pub mod Suffice
+pub mod Reach
+pub mod Known
+pub mod Whole
+pub mod Evicts
