@@ -33,7 +33,7 @@ fn own_keys_in(alloc: Global, element: &Element) -> Result<List<KeyWords>, Alloc
 }
 
 /// The keys that a column says, the primary first.
-fn own_keys(alloc: Global, words: &ColumnWords) -> Result<List<KeyWords>, AllocError>
+pub fn own_keys(alloc: Global, words: &ColumnWords) -> Result<List<KeyWords>, AllocError>
     ensures { IfOk result (λ keys. keys ≡ own_keys words.now) }
 {
     let mut keys = key_if(alloc, words.primary, IndexClass::Primary, &words.name)?;

@@ -101,7 +101,7 @@ fn one_foreign_key<L: Lookup>(
 
 /// Refuses other numbers of columns than of the parent's, more than 16, and none.
 #[tactic(auto, using(dd_catalog::specs::WalkLaws::run_bind))]
-fn allow_columns(alloc: Global, words: &FkWords) -> Result<(), Stop>
+pub fn allow_columns(alloc: Global, words: &FkWords) -> Result<(), Stop>
     ensures { (look : Look) → Follows (λ _. tt) result (run look (allowed_columns words.now)) }
 {
     let names = words.columns.as_slice();
@@ -212,7 +212,7 @@ fn with_key_index(
 }
 
 /// A plain key on the columns of a foreign key.
-fn key_for(words: &FkWords, columns: &List<Name>) -> Result<KeyWords, AllocError>
+pub fn key_for(words: &FkWords, columns: &List<Name>) -> Result<KeyWords, AllocError>
     ensures { IfOk result (λ key. key ≡ key_for words.now columns.now) }
 {
     match both(name_given(&words.constraint, &words.name), columns.copy()) {
@@ -236,7 +236,7 @@ fn name_given(given: &Option<Name>, other: &Option<Name>) -> Result<Option<Name>
 }
 
 /// The foreign key with this name. A parent without schema is in the child's.
-fn key_named(
+pub fn key_named(
     words: &FkWords,
     table: &ObjName,
     name: Name,

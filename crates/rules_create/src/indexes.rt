@@ -11,7 +11,8 @@ use dd_names::{List, Name, TryCopy};
 use sql_types::IndexClass;
 use std::alloc::{AllocError, Global};
 
-pub(crate) fn is_primary(index: &IndexDef) -> bool
+/// Whether the index is a primary key.
+pub fn is_primary(index: &IndexDef) -> bool
     ensures { result ≡ is_primary index.now }
 {
     match index.class {
@@ -21,16 +22,16 @@ pub(crate) fn is_primary(index: &IndexDef) -> bool
     }
 }
 
-/// How many indexes aren't primary.
-pub(crate) fn secondary_count(indexes: &[IndexDef]) -> usize
+/// How many of the indexes are no primary key.
+pub fn secondary_count(indexes: &[IndexDef]) -> usize
     ensures { result ≡ count_by is_secondary indexes.now }
 {
     indexes.iter().filter(|index| !is_primary(index)).count()
 }
 
-/// Whether some index begins with the names.
+/// Whether an index begins with these columns in order.
 #[tactic(auto, unfolding(dd_definitions::specs::ForeignKeys::has_index_on))]
-pub(crate) fn has_index_on(indexes: &[IndexDef], names: &[Name]) -> bool
+pub fn has_index_on(indexes: &[IndexDef], names: &[Name]) -> bool
     ensures { result ≡ has_index_on indexes.now names.now }
 {
     indexes
@@ -40,7 +41,7 @@ pub(crate) fn has_index_on(indexes: &[IndexDef], names: &[Name]) -> bool
 
 /// Whether there is at most one AUTO_INCREMENT column, and it stands first in an index.
 #[tactic(auto, unfolding(crate::specs::Tables::are_autos_led, dd_definitions::specs::Indexes::are_few_autos))]
-pub(crate) fn are_autos_led(parts: &TableParts) -> bool
+pub fn are_autos_led(parts: &TableParts) -> bool
     ensures { result ≡ are_autos_led parts.now }
 {
     let columns = parts.columns.as_slice();
@@ -85,7 +86,7 @@ fn begins_with_name(name: &Name, names: &[Name]) -> bool
 
 /// The primary key, the unique indexes without a column that may be NULL, the other unique ones, and the plain ones.
 #[tactic(auto, unfolding(crate::specs::Tables::by_class))]
-pub(crate) fn by_class(
+pub fn by_class(
     alloc: Global,
     columns: &[ColumnDef],
     indexes: &[IndexDef],
@@ -145,7 +146,7 @@ fn if_ranked(
 
 /// The place of the index among the classes.
 #[tactic(auto, unfolding(dd_definitions::specs::Indexes::rank))]
-fn rank(columns: &[ColumnDef], index: &IndexDef) -> u8
+pub fn rank(columns: &[ColumnDef], index: &IndexDef) -> u8
     ensures { result ≡ rank columns.now index.now }
 {
     let nullable = has_nullable(columns, index);

@@ -122,7 +122,7 @@ fn add_key(
 }
 
 /// Refuses a key without columns.
-pub(crate) fn some_columns(alloc: Global, names: &[Name]) -> Result<(), Stop>
+pub fn some_columns(alloc: Global, names: &[Name]) -> Result<(), Stop>
     ensures { (look : Look) → Follows (λ _. tt) result (run look (some_columns names.now)) }
 {
     if names.is_empty() {
@@ -133,11 +133,7 @@ pub(crate) fn some_columns(alloc: Global, names: &[Name]) -> Result<(), Stop>
 
 /// The table with the index behind the others. The columns of a primary key are NOT NULL.
 #[tactic(auto, unfolding(crate::specs::Tables::with_index))]
-pub(crate) fn with_index(
-    alloc: Global,
-    parts: &mut TableParts,
-    index: IndexDef,
-) -> Result<(), AllocError>
+pub fn with_index(alloc: Global, parts: &mut TableParts, index: IndexDef) -> Result<(), AllocError>
     ensures { IfOk result (λ _. parts.new ≡ with_index parts.old index) }
 {
     if is_primary(&index) {

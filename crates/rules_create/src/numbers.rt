@@ -37,20 +37,22 @@ pub(crate) fn constraint_name(
     }
 }
 
-pub(crate) fn with_number(alloc: Global, front: &str, number: u128) -> Result<Text, AllocError>
+/// The front, and behind it the number in decimal.
+pub fn with_number(alloc: Global, front: &str, number: u128) -> Result<Text, AllocError>
     ensures { IfOk result (λ name. name ≡ front.now ++ decimal number) }
 {
     Ok(Text::from_string(format!(in alloc; "{front}{number}")?))
 }
 
-pub(crate) fn greater(a: u128, b: u128) -> u128
+/// The greater of two numbers.
+pub fn greater(a: u128, b: u128) -> u128
     ensures { result ≡ max a b }
 {
     if a < b { b } else { a }
 }
 
 /// The number behind the front, and 0 where there is none.
-pub(crate) fn number_of(text: Option<&str>) -> u128
+pub fn number_of(text: Option<&str>) -> u128
     ensures value { result ≡ number_of (option_copied text.entry) }
     ensures small { result < 10 ^ 38 }
 {

@@ -106,8 +106,13 @@ fn is_null_allowed(column: &ColumnWords) -> bool
     column.nullable.unwrap_or(true)
 }
 
+/// The default that the words write, as a column of this type keeps it; 1067.
 #[tactic(auto, unfolding(crate::specs::Columns::kept_default))]
-fn kept_default(alloc: Global, column: &ColumnWords, kind: ColumnType) -> Result<Option<Text>, Stop>
+pub fn kept_default(
+    alloc: Global,
+    column: &ColumnWords,
+    kind: ColumnType,
+) -> Result<Option<Text>, Stop>
     ensures { (look : Look) → Follows (λ kept. kept) result (run look (kept_default column.now kind column.now.default)) }
 {
     match &column.default {

@@ -64,7 +64,8 @@ fn with_parent_columns(
     }
 }
 
-fn pair_columns(
+/// Refuses columns that differ in kind from the parent columns: 3780. `written` are those of the foreign key as a statement writes them.
+pub fn pair_columns(
     alloc: Global,
     columns: &[ColumnDef],
     others: &[ColumnDef],
@@ -89,7 +90,8 @@ fn pair_columns(
     }
 }
 
-fn allow_null(
+/// Refuses SET NULL where a column of the foreign key is NOT NULL: 1830. `written` are its columns as a statement writes them.
+pub fn allow_null(
     alloc: Global,
     columns: &[ColumnDef],
     written: &[Name],
@@ -143,7 +145,8 @@ fn name_is_free<L: Lookup>(
     Ok(())
 }
 
-fn is_owned_elsewhere(table: &ObjName, object: &Object) -> bool
+/// Whether this, which stands at the key of a constraint, is another table than this one.
+pub fn is_owned_elsewhere(table: &ObjName, object: &Object) -> bool
     ensures { result ≡ is_owned_elsewhere table.now (sight object.now) }
 {
     match object {
@@ -152,7 +155,8 @@ fn is_owned_elsewhere(table: &ObjName, object: &Object) -> bool
     }
 }
 
-fn has_constraint_named(keys: &[ForeignKeyDef], name: &Name) -> bool
+/// Whether a foreign key has the name, in any case.
+pub fn has_constraint_named(keys: &[ForeignKeyDef], name: &Name) -> bool
     ensures { result ≡ has_constraint_named keys.now name.now }
 {
     keys.iter().any(|key| key.name.same(name))

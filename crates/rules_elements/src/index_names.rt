@@ -105,13 +105,14 @@ fn unused_name(alloc: Global, names: &TakenNames, name: &Name) -> Result<Name, S
 }
 
 /// Whether this is the name of the primary key in any case.
-pub(crate) fn is_primary_name(name: &str) -> bool
+pub fn is_primary_name(name: &str) -> bool
     ensures { result ≡ same name.now primary_name }
 {
     name.eq_ignore_ascii_case(PRIMARY)
 }
 
-fn primary_name(alloc: Global) -> Result<Name, AllocError>
+/// The name of a primary key.
+pub fn primary_name(alloc: Global) -> Result<Name, AllocError>
     ensures { IfOk result (λ name. name ≡ primary_name) }
 {
     match Name::read(alloc, PRIMARY, true) {

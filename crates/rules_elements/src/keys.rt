@@ -155,7 +155,7 @@ fn is_among(names: &[Name], name: &Name) -> bool
 }
 
 /// The first column of that name, in any case.
-pub(crate) fn column_named<'a>(columns: &'a [ColumnDef], name: &Name) -> Option<&'a ColumnDef>
+pub fn column_named<'a>(columns: &'a [ColumnDef], name: &Name) -> Option<&'a ColumnDef>
     ensures { option_copied result ≡ column_named columns.now name.now }
 {
     columns.iter().find(|column| column.name.same(name))

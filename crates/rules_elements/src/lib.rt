@@ -10,9 +10,11 @@ mod kinds;
 mod parents;
 mod taken_names;
 
-pub use columns::check_column;
-pub use foreign_keys::check_fk;
-pub use index_names::made_name;
-pub use keys::{check_key, check_key_among, key_columns};
-pub use parents::is_same_object;
+pub use columns::{check_column, kept_default};
+pub use foreign_keys::{
+    allow_null, check_fk, has_constraint_named, is_owned_elsewhere, pair_columns,
+};
+pub use index_names::{is_primary_name, made_name, primary_name};
+pub use keys::{check_key, check_key_among, column_named, key_columns};
+pub use parents::{is_same_object, parent_of};
 pub use taken_names::TakenNames;

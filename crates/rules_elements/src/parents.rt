@@ -15,9 +15,9 @@ use dd_definitions::{ColumnDef, IndexDef, TableParts};
 use dd_names::{List, Name, ObjName, ObjectKey, TryCopy};
 use std::alloc::{AllocError, Global};
 
-/// The parent: the table itself as it is so far, or the table that stands there.
+/// The parent of a foreign key: the table itself as it is so far, or the table that stands there; where none does, 1824.
 #[tactic(auto, using(dd_catalog::specs::WalkLaws::run_bind), unfolding(crate::specs::ForeignKeys::parent_of))]
-pub(crate) fn parent_of<'a, L: Lookup>(
+pub fn parent_of<'a, L: Lookup>(
     alloc: Global,
     parts: &'a TableParts,
     parent: &ObjName,

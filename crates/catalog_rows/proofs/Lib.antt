@@ -1,0 +1,4 @@
+pub mod Fitting
+pub mod Adding
+pub mod Owned
+pub mod Groups

@@ -1,0 +1,6 @@
+use Rattle.std.proofs.Common.{◌≡◌, map, take}
+use Rattle.rules_alter.specs.Altering.{own_key_renamed}
+use Rattle.rules_alter.proofs.renames.own_keys_renamed.Given as goal
+
+abbrev pub invariant-keys : goal.invariant-keys
+invariant-keys l = l.found ≡ map (own_key_renamed l.table l.from l.to) (take l.key-index l.keys)

@@ -1,0 +1,4 @@
+pub mod Catalogs
+pub mod Refusals
+pub mod Rebuilds
+pub mod Definitions
