@@ -4,12 +4,14 @@ ghost use Rattle.catalog_rows.specs.Parts.{flag, size_number, type_number, type_
 
 use sql_types::{ColumnType, FkRule, IndexClass, IntSize};
 
+/// 1 where it is set, else 0.
 pub fn flag(set: bool) -> u8
     ensures { result ≡ flag set }
 {
     if set { 1 } else { 0 }
 }
 
+/// The number of a type: 1 to 5 the integers by their size, 6 to 10 the unsigned ones, then BOOL, CHAR, VARCHAR, DATE, DATETIME.
 pub fn type_number(kind: ColumnType) -> u8
     ensures { result ≡ type_number kind }
 {
@@ -41,6 +43,7 @@ fn size_number(size: IntSize) -> u8
     }
 }
 
+/// The length of a string type in characters, and 0 of another.
 pub fn type_length(kind: ColumnType) -> u16
     ensures value { result ≡ type_length kind }
     ensures short { type_length kind < 2 ^ 16 }
@@ -51,6 +54,7 @@ pub fn type_length(kind: ColumnType) -> u16
     }
 }
 
+/// The number of a class of indexes.
 pub fn class_number(class: IndexClass) -> u8
     ensures { result ≡ class_number class }
 {
@@ -61,6 +65,7 @@ pub fn class_number(class: IndexClass) -> u8
     }
 }
 
+/// The number of a rule of a foreign key.
 pub fn rule_number(rule: FkRule) -> u8
     ensures { result ≡ rule_number rule }
 {
