@@ -2,7 +2,7 @@
 use Rattle.std.specs.Prelude.{◌≡◌, ℕ, Bool, not, List, filter, Option, Some, None, is_some, IsTrue, if◌then◌else◌, refl}
 use Rattle.std.specs.FinMap as finite_map
 use Rattle.std.specs.List.{flat_map}
-use Rattle.std.specs.Option.{option_map}
+use Rattle.std.specs.Option.{option_map, unwrap_or}
 use Rattle.std.proofs.Common.{sym, ◌∙◌, ap}
 use Rattle.dd_names.specs.declared.object_name.ObjName.{ObjName}
 use Rattle.dd_names.specs.declared.object_name.ObjectKey.{ObjectKey}
@@ -16,12 +16,12 @@ use Rattle.dd_catalog.specs.Sights.{Sight, Nothing, SchemaThere, TableThere, Vie
 use Rattle.dd_catalog.specs.Walks.{Walk, fine, told, run, look_at}
 use Rattle.dd_catalog.specs.Follow.{Stops, sights}
 use Rattle.rules_outcome.specs.Choices.{After}
+use Rattle.rules_elements.specs.ForeignKeys.{is_owned_elsewhere}
 use Rattle.rules_schema.specs.Drops.{children_seen}
 use Rattle.rules_rename.specs.Overlays as overlays
 use Rattle.rules_rename.specs.Overlays.{placed_of, after_seen, object_behind, seen_behind, behind_changes, put_names, owner_before, or_before}
 use Rattle.rules_rename.specs.Behind as walks
-use Rattle.rules_rename.specs.Puts.{entry_of, are_in_order, overlay_of, behind, after_at, is_changed, placed, owner_left, owner_or_nothing}
-use Rattle.rules_rename.specs.declared.put.Put.{Put}
+use Rattle.rules_rename.specs.Puts.{Put, entry_of, are_in_order, overlay_of, behind, after_at, is_changed, placed, owner_left, owned_by, owned_found}
 use Rattle.rules_rename.proofs.Puts.{entries_are, got_at}
 
 -- a check behind the changes
@@ -91,10 +91,22 @@ pub children_told : (known : ObjectKey → Option Object) (puts : List Put) (par
     → run {E = ErrorValue} (behind known puts) (look_at (keys.Children parent)) ≡ fine (ChildrenThere (put_names (children_among parent (placed puts)) (filter (λ child. not (is_changed puts child)) (children_seen (sight object)))))
 children_told known puts parent object ordered is = sees known puts (keys.Children parent) object is ∙ ap (λ (s : Sight). fine s) (children_behind puts parent (sight object) ordered)
 
-pub owner_told : (known : ObjectKey → Option Object) (puts : List Put) (schema folded : List ℕ) (object : Object) (owner : Option ObjName) → IsTrue (are_in_order puts) → known (keys.Constraint schema folded) ≡ Some object
-    → owner_or_nothing owner ≡ owner_among schema folded (placed puts) → run {E = ErrorValue} (behind known puts) (look_at (keys.Constraint schema folded)) ≡ fine (or_before (owner_or_nothing owner) (owner_left puts (sight object)))
-owner_told known puts schema folded object owner ordered is among =
-    sees known puts (keys.Constraint schema folded) object is ∙ ap (λ (s : Sight). fine s) (owner_behind puts schema folded (sight object) ordered ∙ ap (λ s. or_before s (owner_left puts (sight object))) (sym among))
+by_found : (table : ObjName) (found before : Sight) → is_owned_elsewhere table (or_before found before) ≡ unwrap_or (owned_by table found) (is_owned_elsewhere table before)
+by_found table Nothing before = refl
+by_found table SchemaThere before = refl
+by_found table (TableThere space parts) before = refl
+by_found table (ViewThere parts) before = refl
+by_found table (NamesThere names) before = refl
+by_found table (ChildrenThere tables) before = refl
+by_found table (OwnerThere owner) before = refl
+
+pub owner_told : (known : ObjectKey → Option Object) (puts : List Put) (table : ObjName) (schema folded : List ℕ) (object : Object) (found : Option Bool) (owned : Bool) → IsTrue (are_in_order puts) → known (keys.Constraint schema folded) ≡ Some object
+    → found ≡ owned_by table (owner_among schema folded (placed puts)) → owned ≡ unwrap_or found (is_owned_elsewhere table (owner_left puts (sight object)))
+    → owned_found table (run {E = ErrorValue} (behind known puts) (look_at (keys.Constraint schema folded))) ≡ fine owned
+owner_told known puts table schema folded object found owned ordered is found_is owned_is =
+    ap (owned_found table) (sees known puts (keys.Constraint schema folded) object is ∙ ap (λ (s : Sight). fine s) (owner_behind puts schema folded (sight object) ordered))
+    ∙ ap (λ (b : Bool). fine b) (by_found table (owner_among schema folded (placed puts)) (owner_left puts (sight object))
+    ∙ ap (λ f. unwrap_or f (is_owned_elsewhere table (owner_left puts (sight object)))) (sym found_is) ∙ sym owned_is)
 
 pub children_all : (known : ObjectKey → Option Object) (puts : List Put) (parent : ObjName) (object : Object) (changed kept found : List ObjName) → IsTrue (are_in_order puts) → known (keys.Children parent) ≡ Some object
     → changed ≡ children_among parent (placed puts) → kept ≡ filter (λ child. not (is_changed puts child)) (children_seen (sight object)) → found ≡ put_names changed kept

@@ -1,9 +1,12 @@
 pub mod Puts
-pub mod Places
+pub mod InOrder
+pub mod Indexed
+pub mod Standing
 pub mod Behind
+pub mod Places
 pub mod Names
-pub mod ChildrenAmong
-pub mod OwnersAmong
+pub mod KeptChildren
+pub mod SameNames
 pub mod Keys
 pub mod Edits
 pub mod Ids

@@ -1,5 +1,5 @@
 -- What one pair changes, check by check.
-use Rattle.std.specs.Prelude.{◌≡◌, ℕ, List, [], ◌∷◌, map, not, Option, IsTrue}
+use Rattle.std.specs.Prelude.{◌≡◌, ℕ, List, [], ◌∷◌, ◌++◌, map, not, Option, IsTrue}
 use Rattle.std.specs.Str.{bytes_eq}
 use Rattle.std.proofs.Common.{sym, ◌∙◌, ap, subst}
 use Rattle.dd_names.specs.declared.object_name.ObjName.{ObjName}
@@ -20,9 +20,8 @@ use Rattle.rules_outcome.specs.Choices.{Gone, KeptTable, KeptView}
 use Rattle.rules_refusals.specs.Refusals.{forbid_schema_change}
 use Rattle.rules_rename.specs.Overlays.{Overlay, behind_changes}
 use Rattle.rules_rename.specs.Renames.{name_is_free, renamed_keys, renamed_child, renamed_table, renamed_view, renamed_seen, renamed_object, one_pair, with_all}
-use Rattle.rules_rename.specs.Puts.{entry_of, are_in_order, overlay_of, behind, put_all}
-use Rattle.rules_rename.specs.Pairs.{renamed_of}
-use Rattle.rules_rename.specs.declared.put.Put.{Put}
+use Rattle.rules_rename.specs.Puts.{Put, entry_of, are_in_order, overlay_of, behind, put_all}
+use Rattle.rules_rename.specs.Pairs.{renamed_of, moved_to}
 use Rattle.rules_rename.specs.declared.pairs.Renamed.{Renamed}
 use Rattle.rules_rename.proofs.Behind.{run_behind}
 use Rattle.rules_rename.proofs.Puts.{overlay_all}
@@ -61,17 +60,13 @@ table_child_stops look from to space parts foreign_keys children stop free keys_
     rw (run_fine look (name_is_free to) _ tt free, run_fine look (renamed_keys from to parts.foreign_keys) _ foreign_keys keys_are, run_fine {E = ErrorValue} look (look_at (keys.Children from)) _ (ChildrenThere children) seen)
     (stops_first look (each (renamed_child from to) children) _ stop is)
 
--- nothing at the old name, and this at the new one
-abbrev pub moved_to : ObjName → Object → ObjName → Object → Object → List Put
-moved_to from before to free after = record { name = from; before = before; after = objects.Absent } ∷ record { name = to; before = free; after = after } ∷ []
-
-pub table_made : (look : Look) (from to : ObjName) (space : ℕ) (parts renamed : TableParts) (id schema : ℕ) (before free : Object) (children : List ObjName) (others changes : List Put) → run look (name_is_free to) ≡ fine tt
+pub table_made : (look : Look) (from to : ObjName) (space : ℕ) (parts renamed : TableParts) (id schema : ℕ) (children : List ObjName) (others changes : List Put) → run look (name_is_free to) ≡ fine tt
     → run look (renamed_keys from to parts.foreign_keys) ≡ fine renamed.foreign_keys → renamed ≡ record parts { name = to; foreign_keys = renamed.foreign_keys }
     → run {E = ErrorValue} look (look_at (keys.Children from)) ≡ fine (ChildrenThere children) → run look (each (renamed_child from to) children) ≡ fine (map entry_of others)
-    → changes ≡ record { name = from; before = before; after = objects.Absent } ∷ record { name = to; before = free; after = objects.Table id schema space renamed } ∷ others
+    → changes ≡ moved_to from to (objects.Table id schema space renamed) ++ others
     → run look (renamed_table from to space parts) ≡ fine (renamed_of (record { changes = changes; children = children }))
 unfolding renamed_table
-table_made look from to space parts renamed id schema before free children others changes is_free keys_are parts_are seen each_is changed =
+table_made look from to space parts renamed id schema children others changes is_free keys_are parts_are seen each_is changed =
     run_fine look (name_is_free to) _ tt is_free ∙ run_fine look (renamed_keys from to parts.foreign_keys) _ renamed.foreign_keys keys_are
     ∙ run_fine {E = ErrorValue} look (look_at (keys.Children from)) _ (ChildrenThere children) seen ∙ run_fine look (each (renamed_child from to) children) _ (map entry_of others) each_is
     ∙ ap (λ (p : TableParts). fine (record { changes = (from, Gone) ∷ (to, KeptTable space p) ∷ map entry_of others; children = children })) (sym parts_are)
@@ -87,11 +82,11 @@ pub view_not_free : (look : Look) (from to : ObjName) (parts : ViewParts) (stop 
 unfolding renamed_view
 view_not_free look from to parts stop same is = rw (run_fine look (refuse_if (not (bytes_eq from.schema to.schema)) (forbid_schema_change from.schema to.schema)) _ tt same) (stops_first look (name_is_free to) _ stop is)
 
-pub view_made : (look : Look) (from to : ObjName) (parts renamed : ViewParts) (id schema : ℕ) (before free : Object) (changes : List Put) → run look (refuse_if (not (bytes_eq from.schema to.schema)) (forbid_schema_change from.schema to.schema)) ≡ fine tt → run look (name_is_free to) ≡ fine tt
-    → renamed ≡ record parts { name = to } → changes ≡ moved_to from before to free (objects.View id schema renamed)
+pub view_made : (look : Look) (from to : ObjName) (parts renamed : ViewParts) (id schema : ℕ) (changes : List Put) → run look (refuse_if (not (bytes_eq from.schema to.schema)) (forbid_schema_change from.schema to.schema)) ≡ fine tt → run look (name_is_free to) ≡ fine tt
+    → renamed ≡ record parts { name = to } → changes ≡ moved_to from to (objects.View id schema renamed)
     → run look (renamed_view from to parts) ≡ fine (renamed_of (record { changes = changes; children = [] }))
 unfolding renamed_view
-view_made look from to parts renamed id schema before free changes same is_free parts_are changed =
+view_made look from to parts renamed id schema changes same is_free parts_are changed =
     run_fine look (refuse_if (not (bytes_eq from.schema to.schema)) (forbid_schema_change from.schema to.schema)) _ tt same ∙ run_fine look (name_is_free to) _ tt is_free
     ∙ ap (λ (p : ViewParts). fine (record { changes = (from, Gone) ∷ (to, KeptView p) ∷ []; children = [] })) (sym parts_are)
     ∙ ap (λ (cs : List Put). fine (record { changes = map entry_of cs; children = [] })) (sym changed)

@@ -1,5 +1,6 @@
 -- What a renaming leaves at the name of an object.
-use Rattle.std.specs.Prelude.{Bool, true, false}
+use Rattle.std.specs.Prelude.{Bool, true, false, List, []}
+use Rattle.dd_definitions.specs.declared.foreign_keys.ForeignKeyDef.{ForeignKeyDef}
 use Rattle.dd_catalog.specs.declared.object.Object.{Object}
 use Rattle.dd_catalog.specs.declared.object.Object.TheVariants as objects
 use Rattle.rules_outcome.specs.declared.decided.After as left
@@ -23,3 +24,8 @@ kept other = after.Gone
 -- the same, without ids
 abbrev pub after_left : Object → After
 after_left object = after_of (kept object)
+
+-- the foreign keys of a table that is left; anything else has none
+abbrev pub keys_left : Object → List ForeignKeyDef
+keys_left (objects.Table id schema space parts) = parts.foreign_keys
+keys_left other = []

@@ -3,19 +3,18 @@ ghost use Rattle.std.specs.Prelude.{◌≡◌, [], IfOk, OnOk, IsTrue};
 ghost use Rattle.std.specs.FinMap as finite_map;
 ghost use Rattle.dd_catalog.specs.Walks.{run, over};
 ghost use Rattle.dd_catalog.specs.Follow.{Follows, sights};
-ghost use Rattle.rules_schema.specs.Drops.{is_among};
-ghost use Rattle.rules_rename.specs.Renames.{one_pair, with_child, with_all};
-ghost use Rattle.rules_rename.specs.Puts.{AreKnown, are_in_order, put_all};
+ghost use Rattle.rules_rename.specs.Renames.{one_pair};
+ghost use Rattle.rules_rename.specs.Puts.{are_in_order, put_all};
 ghost use Rattle.rules_rename.specs.Ids.{AreWithIds};
-ghost use Rattle.rules_rename.specs.Pairs.{renaming_of};
+ghost use Rattle.rules_rename.specs.Pairs.{renaming_of, AreSame};
 
+use crate::child_names::ChildNames;
+use crate::left::Left;
 use crate::one_object::renamed_object;
 use crate::overlay::Overlay;
 use crate::pairs::Renaming;
-use crate::put::Put;
 use dd_catalog::{Lookup, Stop};
-use dd_names::{List, ObjName, TryCopy};
-use rules_elements::is_same_object;
+use dd_names::{List, ObjName};
 use std::alloc::{AllocError, Global};
 
 /// What the pairs change, one after another.
@@ -25,12 +24,11 @@ pub(crate) fn all_pairs<L: Lookup>(
     look: &L,
 ) -> Result<Renaming, Stop>
     ensures exact { Follows renaming_of result (run (sights (L.known look.now)) (over one_pair (record { overlay = finite_map.empty; children = [] }) pairs.now)) }
-    ensures known { IfOk result (λ renaming. AreKnown (L.known look.now) renaming.overlay) }
     ensures ids { IfOk result (λ renaming. AreWithIds (L.known look.now) renaming.overlay) }
 {
     let mut renaming = Renaming {
         overlay: Overlay::new(alloc),
-        children: List::new(alloc),
+        children: ChildNames::new(alloc),
     };
     'pairs: for pair in pairs {
         one_pair(alloc, &mut renaming, pair, look)?;
@@ -45,49 +43,25 @@ fn one_pair<L: Lookup>(
     pair: &(ObjName, ObjName),
     look: &L,
 ) -> Result<(), Stop>
-    ensures exact { Follows (λ _. renaming_of renaming.new) result (run (sights (L.known look.now)) (one_pair (renaming_of renaming.old) pair.now)) }
-    ensures known { AreKnown (L.known look.now) renaming.old.overlay → IfOk result (λ _. AreKnown (L.known look.now) renaming.new.overlay) }
+    ensures exact { AreSame renaming.old.children → Follows (λ _. renaming_of renaming.new) result (run (sights (L.known look.now)) (one_pair (renaming_of renaming.old) pair.now)) }
+    ensures same { AreSame renaming.old.children → OnOk result (AreSame renaming.new.children) }
     ensures ids { AreWithIds (L.known look.now) renaming.old.overlay → IfOk result (λ _. AreWithIds (L.known look.now) renaming.new.overlay) }
 {
     let renamed = renamed_object(alloc, &renaming.overlay, &pair.0, &pair.1, look)?;
     put_all(&mut renaming.overlay, renamed.changes)?;
-    add_children(&mut renaming.children, renamed.children.as_slice())?;
+    renaming.children.add_all(renamed.children.as_slice())?;
     Ok(())
 }
 
-fn put_all(overlay: &mut Overlay, changes: List<Put>) -> Result<(), AllocError>
+fn put_all(overlay: &mut Overlay, changes: List<(ObjName, Left)>) -> Result<(), AllocError>
     ensures changed { OnOk result (overlay.new ≡ put_all changes overlay.old) }
     ensures in_order { IsTrue (are_in_order overlay.old) }
 {
-    let _before = overlay.as_slice();
+    let _before = overlay.all();
     let mut rest = changes.into_vec();
     rest.reverse();
-    'rest: while let Some(change) = rest.pop() {
-        overlay.put(change)?;
+    'rest: while let Some((name, left)) = rest.pop() {
+        overlay.put(name, left)?;
     }
     Ok(())
-}
-
-fn add_children(children: &mut List<ObjName>, more: &[ObjName]) -> Result<(), AllocError>
-    ensures { OnOk result (children.new ≡ with_all children.old more.now) }
-{
-    'more: for child in more {
-        add_child(children, child)?;
-    }
-    Ok(())
-}
-
-fn add_child(children: &mut List<ObjName>, child: &ObjName) -> Result<(), AllocError>
-    ensures { OnOk result (children.new ≡ with_child children.old child.now) }
-{
-    if !is_among(children.as_slice(), child) {
-        children.push(child.copy()?)?;
-    }
-    Ok(())
-}
-
-fn is_among(objects: &[ObjName], object: &ObjName) -> bool
-    ensures { result ≡ is_among objects.now object.now }
-{
-    objects.iter().any(|other| is_same_object(object, other))
 }

@@ -1,20 +1,17 @@
 // Foreign keys behind a renaming.
 ghost use Rattle.std.specs.Prelude.{◌≡◌, ◌||◌, [], IfOk, map};
-ghost use Rattle.dd_names.specs.Names.{fold};
-ghost use Rattle.dd_names.specs.declared.object_name.ObjectKey.TheVariants as keys;
-ghost use Rattle.dd_catalog.specs.Sights.{sight};
 ghost use Rattle.dd_catalog.specs.WalkLaws.{Look};
-ghost use Rattle.dd_catalog.specs.Walks.{run, look_at, refuse_if, every, over};
+ghost use Rattle.dd_catalog.specs.Walks.{run, refuse_if, every, over};
 ghost use Rattle.dd_catalog.specs.Follow.{Follows};
 ghost use Rattle.rules_refusals.specs.Refusals.{fk_dup_name};
-ghost use Rattle.rules_elements.specs.ForeignKeys.{is_owned_elsewhere, has_constraint_named};
+ghost use Rattle.rules_elements.specs.ForeignKeys.{has_constraint_named};
 ghost use Rattle.rules_rename.specs.Renames.{with_parent, renamed_key, fits_in_name, one_free, in_order, renamed_keys, with_parents};
-ghost use Rattle.rules_rename.specs.Puts.{behind, owned_found};
+ghost use Rattle.rules_rename.specs.Puts.{behind};
 
 use crate::constraints::fitting_name;
 use crate::overlay::Overlay;
-use crate::owners::owner_at;
-use dd_catalog::{Lookup, Object, Stop};
+use crate::owners::is_owned_at;
+use dd_catalog::{Lookup, Stop};
 use dd_definitions::{ForeignKeyDef, TableDef, TableParts};
 use dd_names::{List, Name, ObjName, TryCopy};
 use rules_create::put_in_order;
@@ -182,20 +179,6 @@ fn add_free<L: Lookup>(
     Ok(())
 }
 
-/// Whether another table has a constraint of that name behind the changes.
-fn is_owned_at<L: Lookup>(
-    overlay: &Overlay,
-    table: &ObjName,
-    schema: &Name,
-    name: &Name,
-    look: &L,
-) -> Result<bool, Stop>
-    ensures { Follows (λ owned. owned) result (owned_found table.now (run (behind (L.known look.now) overlay.now) (look_at (keys.Constraint schema.now (fold name.now))))) }
-{
-    let owner = owner_at(overlay, schema, name, look)?;
-    Ok(is_owned_elsewhere(table, &owner))
-}
-
 fn refuse_taken(alloc: Global, owned: bool, named: bool, name: &Name) -> Result<(), Stop>
     ensures { (look : Look) → Follows (λ _. tt) result (run look (refuse_if (owned || named) (fk_dup_name name.now))) }
 {
@@ -206,15 +189,6 @@ fn refuse_taken(alloc: Global, owned: bool, named: bool, name: &Name) -> Result<
         return Err(rules_refusals::fk_dup_name(alloc, name)?);
     }
     Ok(())
-}
-
-fn is_owned_elsewhere(table: &ObjName, object: &Object) -> bool
-    ensures { result ≡ is_owned_elsewhere table.now (sight object.now) }
-{
-    match object {
-        Object::Constraint { table: owner } => !is_same_object(owner, table),
-        _ => false,
-    }
 }
 
 fn has_constraint_named(keys: &[ForeignKeyDef], name: &Name) -> bool

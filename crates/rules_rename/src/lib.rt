@@ -2,16 +2,17 @@
 #![tactic(auto)]
 
 mod all_pairs;
+mod child_names;
 mod children;
 mod constraints;
 mod foreign_keys;
+mod left;
 mod objects;
 mod one_object;
 mod ordered;
 mod overlay;
 mod owners;
 mod pairs;
-mod put;
 mod statement;
 
 pub use statement::rename;

@@ -1,11 +1,9 @@
 // What one pair changes.
-ghost use Rattle.std.specs.Prelude.{◌≡◌, ℕ, [], ◌∷◌, not, IfOk, Option, Some, map};
+ghost use Rattle.std.specs.Prelude.{◌≡◌, ℕ, [], ◌∷◌, ◌++◌, not, IfOk, OnOk, Option, map};
 ghost use Rattle.std.specs.Str.{bytes_eq};
 ghost use Rattle.dd_names.specs.declared.object_name.ObjName.{ObjName as NameOf};
 ghost use Rattle.dd_names.specs.declared.object_name.ObjectKey.{ObjectKey as Key};
-ghost use Rattle.dd_names.specs.declared.object_name.ObjectKey.TheVariants as keys;
 ghost use Rattle.dd_catalog.specs.declared.object.Object.{Object as Standing};
-ghost use Rattle.dd_catalog.specs.declared.object.Object.TheVariants as objects;
 ghost use Rattle.dd_catalog.specs.Sights.{sight};
 ghost use Rattle.dd_catalog.specs.Walks.{run, refuse_if, each};
 ghost use Rattle.dd_catalog.specs.WalkLaws.{Look};
@@ -15,18 +13,18 @@ ghost use Rattle.rules_refusals.specs.Refusals.{forbid_schema_change};
 ghost use Rattle.rules_rename.specs.Renames.{child_after, renamed_child, renamed_table, renamed_view, renamed_seen, renamed_object};
 ghost use Rattle.rules_rename.specs.Left.{after_left, kept};
 ghost use Rattle.rules_rename.specs.Ids.{IsWithIds, AreWithIds};
-ghost use Rattle.rules_rename.specs.Puts.{entry_of, behind, IsKnown, AreKnown};
-ghost use Rattle.rules_rename.specs.Pairs.{renamed_of};
+ghost use Rattle.rules_rename.specs.Puts.{entry_of, behind};
+ghost use Rattle.rules_rename.specs.Pairs.{renamed_of, moved_to};
 
 use crate::children::children_at;
 use crate::foreign_keys::{renamed_def, with_parents};
+use crate::left::Left;
 use crate::objects::{name_is_free, object_at, schema_id};
 use crate::overlay::Overlay;
 use crate::pairs::Renamed;
-use crate::put::{Left, Put};
 use dd_catalog::{Lookup, Object, Stop};
 use dd_definitions::{TableDef, ViewDef, ViewParts};
-use dd_names::{List, Name, ObjName, TryCopy};
+use dd_names::{List, Name, ObjName, TryCopy, both};
 use std::alloc::{AllocError, Global};
 
 /// The object has the new name, its constraints and its children follow. Absent: 1146; a view to another schema: 1450; the new
@@ -39,11 +37,10 @@ pub(crate) fn renamed_object<L: Lookup>(
     look: &L,
 ) -> Result<Renamed, Stop>
     ensures exact { Follows renamed_of result (run (behind (L.known look.now) overlay.now) (renamed_object from.now to.now)) }
-    ensures known { IfOk result (λ renamed. AreKnown (L.known look.now) renamed.changes) }
     ensures ids { AreWithIds (L.known look.now) overlay.now → IfOk result (λ renamed. AreWithIds (L.known look.now) renamed.changes) }
 {
-    let (before, now) = object_at(overlay, from, look)?;
-    renamed_seen(alloc, overlay, from, to, before, now, look)
+    let now = object_at(overlay, from, look)?;
+    renamed_seen(alloc, overlay, from, to, now, look)
 }
 
 fn renamed_seen<L: Lookup>(
@@ -51,12 +48,10 @@ fn renamed_seen<L: Lookup>(
     overlay: &Overlay,
     from: &ObjName,
     to: &ObjName,
-    before: &Object,
     now: &Object,
     look: &L,
 ) -> Result<Renamed, Stop>
     ensures exact { Follows renamed_of result (run (behind (L.known look.now) overlay.now) (renamed_seen from.now to.now (sight now.now))) }
-    ensures known { L.known look.now (keys.Object from.now) ≡ Some before.now → IfOk result (λ renamed. AreKnown (L.known look.now) renamed.changes) }
     ensures ids { HasIdsAt (L.known look.now) from.now (kept now.now) → AreWithIds (L.known look.now) overlay.now → IfOk result (λ renamed. AreWithIds (L.known look.now) renamed.changes) }
 {
     match now {
@@ -65,11 +60,9 @@ fn renamed_seen<L: Lookup>(
                 id: *id,
                 space: *space,
             };
-            renamed_table(alloc, overlay, from, to, before, ids, def, look)
+            renamed_table(alloc, overlay, from, to, ids, def, look)
         }
-        Object::View { id, def, .. } => {
-            renamed_view(alloc, overlay, from, to, before, *id, def, look)
-        }
+        Object::View { id, def, .. } => { renamed_view(alloc, overlay, from, to, *id, def, look) }
         _ => Err(rules_refusals::no_such_table(alloc, from)?),
     }
 }
@@ -86,23 +79,20 @@ fn renamed_table<L: Lookup>(
     overlay: &Overlay,
     from: &ObjName,
     to: &ObjName,
-    before: &Object,
     ids: TableIds,
     def: &TableDef,
     look: &L,
 ) -> Result<Renamed, Stop>
     ensures exact { Follows renamed_of result (run (behind (L.known look.now) overlay.now) (renamed_table from.now to.now ids.space def.now)) }
-    ensures known { L.known look.now (keys.Object from.now) ≡ Some before.now → IfOk result (λ renamed. AreKnown (L.known look.now) renamed.changes) }
     ensures ids { ((own : ℕ) × KnownTable (L.known look.now) ids.id own ids.space) → AreWithIds (L.known look.now) overlay.now → IfOk result (λ renamed. AreWithIds (L.known look.now) renamed.changes) }
 {
     let schema = schema_id(&to.schema, look)?;
-    let free = name_is_free(alloc, overlay, to, look)?;
+    name_is_free(alloc, overlay, to, look)?;
     let table = renamed_def(alloc, overlay, from, to, def, look)?;
-    let children = children_at(alloc, overlay, from, look)?;
-    let others = renamed_children(alloc, overlay, from, to, children.as_slice(), look)?;
     let after = Left::table(ids.id, schema, ids.space, table);
-    let mut changes = moved(alloc, from, before, to, free, after)?;
-    changes.append(others)?;
+    let mut changes = moved(alloc, from, to, after)?;
+    let children = children_at(alloc, overlay, from, look)?;
+    changes.append(renamed_children(alloc, overlay, from, to, children.as_slice(), look)?)?;
     Ok(Renamed { changes, children })
 }
 
@@ -111,21 +101,19 @@ fn renamed_view<L: Lookup>(
     overlay: &Overlay,
     from: &ObjName,
     to: &ObjName,
-    before: &Object,
     id: u32,
     def: &ViewDef,
     look: &L,
 ) -> Result<Renamed, Stop>
     ensures exact { Follows renamed_of result (run (behind (L.known look.now) overlay.now) (renamed_view from.now to.now def.now)) }
-    ensures known { L.known look.now (keys.Object from.now) ≡ Some before.now → IfOk result (λ renamed. AreKnown (L.known look.now) renamed.changes) }
     ensures ids { ((own : ℕ) × KnownView (L.known look.now) id own) → IfOk result (λ renamed. AreWithIds (L.known look.now) renamed.changes) }
 {
     let schema = schema_id(&to.schema, look)?;
     same_schema(alloc, &from.schema, &to.schema)?;
-    let stood = name_is_free(alloc, overlay, to, look)?;
+    name_is_free(alloc, overlay, to, look)?;
     let after = Left::view(id, schema, view_named(to, def)?);
     Ok(Renamed {
-        changes: moved(alloc, from, before, to, stood, after)?,
+        changes: moved(alloc, from, to, after)?,
         children: List::new(alloc),
     })
 }
@@ -158,25 +146,22 @@ fn view_named(to: &ObjName, def: &ViewDef) -> Result<ViewDef, AllocError>
 fn moved(
     alloc: Global,
     from: &ObjName,
-    before: &Object,
     to: &ObjName,
-    free: &Object,
     after: Left,
-) -> Result<List<Put>, AllocError>
-    ensures { IfOk result (λ puts. puts ≡ record { name = from.now; before = before.now; after = objects.Absent } ∷ record { name = to.now; before = free.now; after = after } ∷ []) }
-{
-    let gone = Put::at(from, before, Left::nothing())?;
-    let placed = Put::at(to, free, after)?;
-    both(alloc, gone, placed)
-}
-
-fn both(alloc: Global, first: Put, second: Put) -> Result<List<Put>, AllocError>
-    ensures { IfOk result (λ puts. puts ≡ first ∷ second ∷ []) }
+) -> Result<List<(ObjName, Left)>, AllocError>
+    ensures { IfOk result (λ puts. puts ≡ moved_to from.now to.now after) }
 {
     let mut puts = List::new(alloc);
-    puts.push(first)?;
-    puts.push(second)?;
+    add(&mut puts, from, Left::nothing())?;
+    add(&mut puts, to, after)?;
     Ok(puts)
+}
+
+fn add(puts: &mut List<(ObjName, Left)>, name: &ObjName, after: Left) -> Result<(), AllocError>
+    ensures { OnOk result (puts.new ≡ puts.old ++ (name.now, after) ∷ []) }
+{
+    puts.push((name.copy()?, after))?;
+    Ok(())
 }
 
 fn renamed_children<L: Lookup>(
@@ -186,9 +171,8 @@ fn renamed_children<L: Lookup>(
     to: &ObjName,
     children: &[ObjName],
     look: &L,
-) -> Result<List<Put>, Stop>
+) -> Result<List<(ObjName, Left)>, Stop>
     ensures exact { Follows (λ puts. map entry_of puts) result (run (behind (L.known look.now) overlay.now) (each (renamed_child from.now to.now) children.now)) }
-    ensures known { IfOk result (λ puts. AreKnown (L.known look.now) puts) }
     ensures ids { AreWithIds (L.known look.now) overlay.now → IfOk result (λ puts. AreWithIds (L.known look.now) puts) }
 {
     let mut puts = List::new(alloc);
@@ -206,14 +190,12 @@ fn renamed_child<L: Lookup>(
     to: &ObjName,
     child: &ObjName,
     look: &L,
-) -> Result<Put, Stop>
+) -> Result<(ObjName, Left), Stop>
     ensures exact { Follows entry_of result (run (behind (L.known look.now) overlay.now) (renamed_child from.now to.now child.now)) }
-    ensures known { IfOk result (λ put. IsKnown (L.known look.now) put) }
     ensures ids { AreWithIds (L.known look.now) overlay.now → IfOk result (λ put. IsWithIds (L.known look.now) put) }
 {
-    let (before, now) = object_at(overlay, child, look)?;
-    let after = child_after(alloc, from, to, now)?;
-    Ok(Put::at(child, before, after)?)
+    let now = object_at(overlay, child, look)?;
+    Ok(both(child.copy(), child_after(alloc, from, to, now))?)
 }
 
 fn child_after(

@@ -1,9 +1,9 @@
 // Names of objects in order.
 ghost use Rattle.std.specs.Prelude.{◌≡◌, ◌≤◌, OnOk, length};
 ghost use Rattle.std.specs.List.{insert};
+ghost use Rattle.dd_catalog.specs.Catalog.{object_cmp};
 ghost use Rattle.rules_rename.specs.Overlays.{put_name, put_names};
 
-use crate::overlay::object_cmp;
 use dd_names::{List, ObjName};
 use std::alloc::{AllocError, Global};
 use std::cmp::Ordering;
@@ -45,4 +45,11 @@ fn place_of(name: &ObjName, names: &[ObjName]) -> usize
         }
     }
     names.len()
+}
+
+/// The order of names: by the schemas, and then by the objects' own.
+fn object_cmp(a: &ObjName, b: &ObjName) -> Ordering
+    ensures { result ≡ object_cmp a.now b.now }
+{
+    a.schema.cmp(&b.schema).then(a.name.cmp(&b.name))
 }

@@ -1,11 +1,12 @@
+use crate::child_names::ChildNames;
+use crate::left::Left;
 use crate::overlay::Overlay;
-use crate::put::Put;
 use dd_names::{List, ObjName};
 
-/// What a pair changes, and the children of its table.
+/// What a pair changes: names with what is left at each, and the children of its table.
 #[derive(Drop)]
 pub(crate) struct Renamed {
-    pub(crate) changes: List<Put>,
+    pub(crate) changes: List<(ObjName, Left)>,
     pub(crate) children: List<ObjName>,
 }
 
@@ -13,5 +14,5 @@ pub(crate) struct Renamed {
 #[derive(Drop)]
 pub(crate) struct Renaming {
     pub(crate) overlay: Overlay,
-    pub(crate) children: List<ObjName>,
+    pub(crate) children: ChildNames,
 }

@@ -1,18 +1,19 @@
 // RENAME TABLE (MySQL 8.0 Reference Manual, 13.1.36).
-ghost use Rattle.std.specs.Prelude.{◌≡◌, IfOk, IsTrue, Option, length, map, nat_lt};
+ghost use Rattle.std.specs.Prelude.{◌≡◌, true, is_some, IfOk, IsTrue, Option, length, map, nat_lt};
+ghost use Rattle.dd_names.specs.declared.object_name.ObjectKey.TheVariants as keys;
 ghost use Rattle.dd_catalog.specs.Walks.{run, each, every, refuse_if};
 ghost use Rattle.dd_catalog.specs.WalkLaws.{Look};
 ghost use Rattle.dd_catalog.specs.Follow.{Follows, sights};
 ghost use Rattle.rules_outcome.specs.Decided.{Decides, there, AreBefore, HaveIds};
 ghost use Rattle.rules_refusals.specs.Refusals.{beyond_limit};
 ghost use Rattle.rules_rename.specs.Renames.{named_pair, schemas_there, rename};
-ghost use Rattle.rules_rename.specs.Puts.{are_in_order};
-ghost use Rattle.rules_rename.specs.Pairs.{edit_of};
+ghost use Rattle.rules_rename.specs.Puts.{are_in_order, IsKnown, AreKnown};
+ghost use Rattle.rules_rename.specs.Pairs.{edit_of, before_at};
 
 use crate::all_pairs::all_pairs;
+use crate::left::Left;
 use crate::overlay::Overlay;
-use crate::put::Put;
-use dd_catalog::{Lookup, Object, Stop};
+use dd_catalog::{Lookup, Object, Stop, object_at};
 use dd_names::{List, Name, ObjName, ObjectKey, TryCopy};
 use rules_named::{resolved, schema_there};
 use rules_outcome::{Decided, Edit, Edits};
@@ -37,7 +38,7 @@ pub fn rename<L: Lookup>(
     let renaming = all_pairs(alloc, named.as_slice(), look)?;
     allow_count(alloc, renaming.children.len())?;
     Ok(Decided::Edits(Edits {
-        puts: edits_of(alloc, renaming.overlay)?,
+        puts: edits_of(alloc, renaming.overlay, look)?,
         session: session.copy()?,
     }))
 }
@@ -100,34 +101,50 @@ fn allow_count(alloc: Global, count: usize) -> Result<(), Stop>
     Ok(())
 }
 
-fn edits_of(alloc: Global, overlay: Overlay) -> Result<List<Edit>, AllocError>
-    ensures edits { IfOk result (λ edits. edits ≡ map edit_of overlay) }
+fn edits_of<L: Lookup>(alloc: Global, overlay: Overlay, look: &L) -> Result<List<Edit>, AllocError>
+    ensures edits { IfOk result (λ edits. edits ≡ map (edit_of (L.known look.now)) overlay) }
+    ensures known { IfOk result (λ _. AreKnown (L.known look.now) overlay) }
     ensures in_order { IsTrue (are_in_order overlay) }
 {
     let mut edits = List::new(alloc);
-    let mut rest = overlay.into_vec();
+    let mut rest = overlay.into_vec()?;
     rest.reverse();
-    'rest: while let Some(put) = rest.pop() {
-        edits.push(edit_of(put))?;
+    'rest: while let Some((name, after)) = rest.pop() {
+        edits.push(edit_of(name, after, look)?)?;
     }
     Ok(edits)
 }
 
-fn edit_of(put: Put) -> Edit
-    ensures { result ≡ edit_of put }
+fn edit_of<L: Lookup>(name: ObjName, after: Left, look: &L) -> Result<Edit, AllocError>
+    ensures edit { IfOk result (λ edit. edit ≡ edit_of (L.known look.now) (name, after)) }
+    ensures known { IfOk result (λ _. IsKnown (L.known look.now) (name, after)) }
 {
-    Edit {
-        key: ObjectKey::Object(put.name),
-        before: there(put.before),
-        after: put.after.into_after(),
+    match before_at(&name, look) {
+        Ok(before) => Ok(Edit {
+            key: ObjectKey::Object(name),
+            before,
+            after: after.into_after(),
+        }),
+        Err(error) => Err(error),
     }
 }
 
-fn there(object: Object) -> Option<Object>
-    ensures { result ≡ there object }
+/// What stood at the name, as was looked at by the pairs.
+fn before_at<L: Lookup>(name: &ObjName, look: &L) -> Result<Option<Object>, AllocError>
+    ensures before { IfOk result (λ before. before ≡ before_at (L.known look.now (keys.Object name.now))) }
+    ensures known { IfOk result (λ _. is_some (L.known look.now (keys.Object name.now)) ≡ true) }
+{
+    match object_at(look, name) {
+        Ok(object) => there(object),
+        Err(_) => Err(AllocError),
+    }
+}
+
+fn there(object: &Object) -> Result<Option<Object>, AllocError>
+    ensures { IfOk result (λ before. before ≡ there object.now) }
 {
     match object {
-        Object::Absent => None,
-        object => Some(object),
+        Object::Absent => Ok(None),
+        object => Ok(Some(object.copy()?)),
     }
 }

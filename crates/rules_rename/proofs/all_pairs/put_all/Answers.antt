@@ -9,4 +9,4 @@ rest-init c = ap (λ l. put_all l c.args.overlay.now) (ap reverse c.reverse.ensu
 
 pub rest-preserved : goal.rest-preserved
 rest-preserved c =
-    ap (put_all (reverse c.pop.new.self.items)) c.in_ok-put.ensures.changed ∙ sym (ap (λ l. put_all l c.rest.overlay) (ap reverse c.in-Some.ensures.items ∙ reverse-append c.pop.new.self.items (c.in-Some.change ∷ []))) ∙ c.rest.invariant
+    ap (put_all (reverse c.pop.new.self.items)) c.in_ok-put.ensures ∙ sym (ap (λ l. put_all l c.rest.overlay) (ap reverse c.in-Some.ensures.items ∙ reverse-append c.pop.new.self.items ((c.in-Some.name, c.in-Some.left) ∷ []))) ∙ c.rest.invariant

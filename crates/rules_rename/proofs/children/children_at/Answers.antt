@@ -1,12 +1,11 @@
-use Rattle.std.proofs.Common.{◌≡◌, List, sym, ◌∙◌, ap, subst}
-use Rattle.std.specs.Prelude.{IsTrue, not, filter}
+use Rattle.std.proofs.Common.{◌∙◌, ap}
+use Rattle.std.specs.Prelude.{not, filter}
 use Rattle.std.proofs.lemmas.Result.{err_from_is_err_and}
+use Rattle.dd_names.specs.declared.object_name.ObjName.{ObjName}
 use Rattle.dd_names.specs.declared.object_name.ObjectKey.TheVariants as keys
-use Rattle.dd_errors.specs.Errors.{ErrorValue}
-use Rattle.dd_catalog.specs.Sights.{ChildrenThere}
-use Rattle.dd_catalog.specs.Walks.{fine, run, look_at}
-use Rattle.rules_rename.specs.Puts.{are_in_order, behind, is_changed}
-use Rattle.rules_rename.specs.declared.put.Put.{Put}
+use Rattle.rules_rename.specs.Puts.{is_changed}
+use Rattle.rules_rename.specs.Indexed.{standing}
+use Rattle.rules_rename.proofs.Standing.{children_are}
 use Rattle.rules_rename.proofs.Behind.{stops_too, children_all}
 use Rattle.rules_rename.proofs.children.children_at.Goals as goal
 
@@ -18,8 +17,7 @@ returns-in_err-known g c =
 pub returns : goal.returns
 returns g c =
     let known = g.L.Lookup.known c.args.look.now in
-    let puts = c.as_slice-puts.result.now in
-    subst (λ (ps : List Put). run {E = ErrorValue} (behind known ps) (look_at (keys.Children c.args.parent.now)) ≡ fine (ChildrenThere c.put_names.new.names)) c.as_slice-puts.ensures.value
-    (children_all known puts c.args.parent.now c.in_ok-known.known.now c.in_ok-changed.changed c.in_ok-children.children c.put_names.new.names (subst (λ (ps : List Put). IsTrue (are_in_order ps)) (sym c.as_slice-puts.ensures.value) c.as_slice-puts.ensures.in_order)
-    c.in_ok-known.ensures.known c.in_ok-changed.ensures
-    (c.in_ok-children.ensures ∙ ap (filter (λ child. not (is_changed puts child))) c.children_seen.ensures) c.in_ok-put_names.ensures)
+    let puts = c.args.overlay.now in
+    children_all known puts c.args.parent.now c.in_ok-known.known.now c.in_ok-changed.changed c.in_ok-children.children c.put_names.new.names c.in_ok-changed.ensures.in_order c.in_ok-known.ensures.known
+    (c.in_ok-changed.ensures.tables ∙ ap (λ (parent : ObjName). standing (keys.Children parent) puts) c.in_ok-copy.ensures ∙ children_are c.args.parent.now puts)
+    (c.in_ok-children.ensures ∙ ap (filter (λ child. not (is_changed puts child))) c.children_seen.ensures) c.in_ok-put_names.ensures

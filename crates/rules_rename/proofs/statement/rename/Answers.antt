@@ -64,7 +64,7 @@ pub returns-clause-exact : goal.returns-clause-exact
 returns-clause-exact g c =
     let look = sights (g.L.Lookup.known c.args.look.now) in
     sym (ap (λ (edits : List Edit). fine (Changes (map change_of edits) c.in_ok-copy.field-0)) c.in_ok-edits_of.ensures.edits
-    ∙ ap (λ (changes : List Change). fine (Changes changes c.in_ok-copy.field-0)) (changes_told c.in_ok-renaming.renaming.overlay c.in_ok-edits_of.ensures.in_order)
+    ∙ ap (λ (changes : List Change). fine (Changes changes c.in_ok-copy.field-0)) (changes_told (g.L.Lookup.known c.args.look.now) c.in_ok-renaming.renaming.overlay c.in_ok-edits_of.ensures.in_order)
     ∙ ap (λ (session : SessionState). fine (Changes (changes_in (finite_map.entries (overlay_of c.in_ok-renaming.renaming.overlay))) session)) c.in_ok-copy.ensures
     ∙ sym (all_renamed look c.args.session.now c.args.pairs.now c.in_ok-named.named (renaming_of c.in_ok-renaming.renaming) (c.in_ok-named.ensures look)
     (subst (λ (named : List (ObjName × ObjName)). run look (every schemas_there named) ≡ fine tt) c.as_slice.ensures c.in_ok-all_schemas_there.ensures)
@@ -75,7 +75,7 @@ returns-clause-exact g c =
 pub returns-clause-before : goal.returns-clause-before
 returns-clause-before g c =
     subst (AllByRecursion (λ (edit : Edit). IsBefore (g.L.Lookup.known c.args.look.now edit.key) edit.before)) (sym c.in_ok-edits_of.ensures.edits)
-    (edits_known (g.L.Lookup.known c.args.look.now) c.in_ok-renaming.renaming.overlay c.in_ok-renaming.ensures.known)
+    (edits_known (g.L.Lookup.known c.args.look.now) c.in_ok-renaming.renaming.overlay c.in_ok-edits_of.ensures.known)
 
 pub returns-clause-ids : goal.returns-clause-ids
 returns-clause-ids g c =

@@ -1,14 +1,12 @@
-ghost use Rattle.std.specs.Prelude.{◌≡◌, IfOk};
+ghost use Rattle.std.specs.Prelude.{◌≡◌};
 ghost use Rattle.dd_catalog.specs.declared.object.Object.TheVariants as objects;
 ghost use Rattle.dd_catalog.specs.Sights.{sight};
 ghost use Rattle.rules_rename.specs.Overlays.{after_seen};
-ghost use Rattle.rules_rename.specs.Left.{after_left, kept};
+ghost use Rattle.rules_rename.specs.Left.{after_left, kept, keys_left};
 
 use dd_catalog::Object;
-use dd_definitions::{TableDef, ViewDef};
-use dd_names::{ObjName, TryCopy};
+use dd_definitions::{ForeignKeyDef, TableDef, ViewDef};
 use rules_outcome::After;
-use std::alloc::AllocError;
 use std::marker::Model;
 
 /// What is left at the name of an object: a table, a view, or nothing. Contracts see it as an object.
@@ -66,6 +64,16 @@ impl Left {
         &self.object
     }
 
+    /// The foreign keys of a table; anything else has none.
+    pub(crate) fn foreign_keys(&self) -> &[ForeignKeyDef]
+        ensures { result.now ≡ keys_left self.now }
+    {
+        match &self.object {
+            Object::Table { def, .. } => def.parts().foreign_keys.as_slice(),
+            _ => &[],
+        }
+    }
+
     pub(crate) fn into_after(self) -> After
         ensures { result ≡ kept self }
     {
@@ -85,27 +93,5 @@ impl Left {
             Object::View { id, schema, def } => After::KeptView { id, schema, def },
             _ => After::Gone,
         }
-    }
-}
-
-/// What changes at one object.
-#[derive(Drop)]
-pub(crate) struct Put {
-    pub(crate) name: ObjName,
-    /// What stood there before the statement.
-    pub(crate) before: Object,
-    pub(crate) after: Left,
-}
-
-impl Put {
-    /// The change at the name where one object stands and the other is left.
-    pub(crate) fn at(name: &ObjName, before: &Object, after: Left) -> Result<Put, AllocError>
-        ensures { IfOk result (λ put. put ≡ record { name = name.now; before = before.now; after = after }) }
-    {
-        Ok(Put {
-            name: name.copy()?,
-            before: before.copy()?,
-            after,
-        })
     }
 }
