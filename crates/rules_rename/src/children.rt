@@ -1,16 +1,16 @@
 // The children of a table behind the changes.
 ghost use Rattle.std.specs.Prelude.{◌≡◌, ◌++◌, [], ◌∷◌, not, filter, IfOk, OnOk, if◌then◌else◌};
 ghost use Rattle.dd_names.specs.declared.object_name.ObjectKey.TheVariants as keys;
-ghost use Rattle.dd_catalog.specs.Sights.{sight, ChildrenThere};
+ghost use Rattle.dd_catalog.specs.Sights.{ChildrenThere};
 ghost use Rattle.dd_catalog.specs.Walks.{run, look_at};
 ghost use Rattle.dd_catalog.specs.Follow.{Follows};
-ghost use Rattle.rules_schema.specs.Drops.{children_seen};
 ghost use Rattle.rules_rename.specs.Puts.{behind, is_changed};
 
 use crate::ordered::put_names;
 use crate::overlay::Overlay;
-use dd_catalog::{Lookup, Object, Stop};
+use dd_catalog::{Lookup, Stop};
 use dd_names::{List, ObjName, ObjectKey, TryCopy};
+use rules_schema::children_seen;
 use std::alloc::{AllocError, Global};
 
 /// The children of the table behind the changes, in order.
@@ -27,15 +27,6 @@ pub(crate) fn children_at<L: Lookup>(
     let mut children = kept_children(alloc, overlay, children_seen(known))?;
     put_names(alloc, changed, &mut children)?;
     Ok(children)
-}
-
-fn children_seen(object: &Object) -> &[ObjName]
-    ensures { result.now ≡ children_seen (sight object.now) }
-{
-    match object {
-        Object::Children(tables) => tables.as_slice(),
-        _ => &[],
-    }
 }
 
 /// Those of the children that aren't changed.

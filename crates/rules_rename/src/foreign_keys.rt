@@ -4,7 +4,6 @@ ghost use Rattle.dd_catalog.specs.WalkLaws.{Look};
 ghost use Rattle.dd_catalog.specs.Walks.{run, refuse_if, every, over};
 ghost use Rattle.dd_catalog.specs.Follow.{Follows};
 ghost use Rattle.rules_refusals.specs.Refusals.{fk_dup_name};
-ghost use Rattle.rules_elements.specs.ForeignKeys.{has_constraint_named};
 ghost use Rattle.rules_rename.specs.Renames.{with_parent, renamed_key, fits_in_name, one_free, in_order, renamed_keys, with_parents};
 ghost use Rattle.rules_rename.specs.Puts.{behind};
 
@@ -15,7 +14,7 @@ use dd_catalog::{Lookup, Stop};
 use dd_definitions::{ForeignKeyDef, TableDef, TableParts};
 use dd_names::{List, Name, ObjName, TryCopy};
 use rules_create::put_in_order;
-use rules_elements::is_same_object;
+use rules_elements::{has_constraint_named, is_same_object};
 use std::alloc::{AllocError, Global};
 
 /// The renamed table: its foreign keys have their new names and parents.
@@ -45,7 +44,7 @@ pub(crate) fn renamed_def<L: Lookup>(
 }
 
 /// The table, whose foreign keys refer to the new name in place of the old one.
-pub(crate) fn with_parents(
+pub fn with_parents(
     alloc: Global,
     from: &ObjName,
     to: &ObjName,
@@ -110,7 +109,8 @@ fn renamed_keys<L: Lookup>(
     Ok(in_order(alloc, free)?)
 }
 
-fn all_renamed(
+/// The foreign keys with their new names and parents; a name of more than 64 characters: 1059.
+pub fn all_renamed(
     alloc: Global,
     from: &ObjName,
     to: &ObjName,
@@ -179,7 +179,8 @@ fn add_free<L: Lookup>(
     Ok(())
 }
 
-fn refuse_taken(alloc: Global, owned: bool, named: bool, name: &Name) -> Result<(), Stop>
+/// A constraint's name that another table has, or a foreign key before this one: 1826.
+pub fn refuse_taken(alloc: Global, owned: bool, named: bool, name: &Name) -> Result<(), Stop>
     ensures { (look : Look) → Follows (λ _. tt) result (run look (refuse_if (owned || named) (fk_dup_name name.now))) }
 {
     if owned {
@@ -191,13 +192,8 @@ fn refuse_taken(alloc: Global, owned: bool, named: bool, name: &Name) -> Result<
     Ok(())
 }
 
-fn has_constraint_named(keys: &[ForeignKeyDef], name: &Name) -> bool
-    ensures { result ≡ has_constraint_named keys.now name.now }
-{
-    keys.iter().any(|key| key.name.same(name))
-}
-
-fn in_order(alloc: Global, keys: List<ForeignKeyDef>) -> Result<List<ForeignKeyDef>, AllocError>
+/// The foreign keys in the order of their folded names.
+pub fn in_order(alloc: Global, keys: List<ForeignKeyDef>) -> Result<List<ForeignKeyDef>, AllocError>
     ensures { IfOk result (λ found. found ≡ in_order keys) }
 {
     let mut rest = keys.into_vec();

@@ -15,4 +15,5 @@ mod owners;
 mod pairs;
 mod statement;
 
+pub use foreign_keys::{all_renamed, in_order, refuse_taken, with_parents};
 pub use statement::rename;
