@@ -1,2 +1,4 @@
 pub mod Lists
 pub mod Keys
+pub mod Owned
+pub mod Changed
