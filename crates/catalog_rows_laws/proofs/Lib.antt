@@ -2,3 +2,4 @@ pub mod Lists
 pub mod Keys
 pub mod Owned
 pub mod Changed
+pub mod Erased
