@@ -3,3 +3,5 @@ pub mod Keys
 pub mod Owned
 pub mod Changed
 pub mod Erased
+pub mod Exact
+pub mod Growing
