@@ -5,3 +5,4 @@ pub mod Changed
 pub mod Erased
 pub mod Exact
 pub mod Growing
+pub mod Alone
