@@ -6,3 +6,5 @@ pub mod Erased
 pub mod Exact
 pub mod Growing
 pub mod Alone
+pub mod Twins
+pub mod Formed
