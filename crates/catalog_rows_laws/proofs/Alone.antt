@@ -212,7 +212,7 @@ view_split parts =
 long_is : (a b : ℕ) → Long a ∷ [] ≡ Long b ∷ [] → a ≡ b
 long_is a b e = cc
 
-short_is : (a b : ℕ) → Short a ∷ [] ≡ Short b ∷ [] → a ≡ b
+pub short_is : (a b : ℕ) → Short a ∷ [] ≡ Short b ∷ [] → a ≡ b
 short_is a b e = cc
 
 pub view_alone : (x y : ViewParts) → FitsView x → FitsView y → fields_bytes (view_fields x) ≡ fields_bytes (view_fields y) → (x.sources ≡ y.sources) × (x.outputs ≡ y.outputs)

@@ -35,7 +35,7 @@ are_where_written rows n cat owners w l same = record {
   only = λ key value own got. put_owner n owners l key value (sym (same key own) ∙ got);
 }
 
-same_options : (a b : Option (List ℕ)) → ((v : List ℕ) → a ≡ Some v → b ≡ Some v) → ((v : List ℕ) → b ≡ Some v → a ≡ Some v) → a ≡ b
+pub same_options : {X : Type 0} (a b : Option X) → ((v : X) → a ≡ Some v → b ≡ Some v) → ((v : X) → b ≡ Some v → a ≡ Some v) → a ≡ b
 same_options None None f g = refl
 same_options None (Some v) f g = g v refl
 same_options (Some v) b f g = sym (f v refl)

@@ -8,3 +8,6 @@ pub mod Growing
 pub mod Alone
 pub mod Twins
 pub mod Formed
+pub mod Values
+pub mod Objects
+pub mod Determined
