@@ -36,7 +36,7 @@ use Rattle.catalog_rows.specs.Stands.{Standing, Numbered, placed_in, Has, IsOf, 
 use Rattle.catalog_rows.proofs.Fitting.{column_fits, index_fits, key_fits, text_fits, place_fits}
 use Rattle.catalog_rows_laws.proofs.Lists.{some_of, index_of, index_columns_are, key_with, key_columns_are, parents_are}
 use Rattle.catalog_rows_laws.proofs.Keys.{some_is, all_get, same_key, tag_at, tag_low, tag_high, object_tag, no_schema_tag, schema_only, inside_alone}
-use Rattle.catalog_rows_laws.proofs.Owned.{IsWith, standing, stands_in, same_id, same_owner}
+use Rattle.catalog_rows_laws.proofs.Owned.{IsWith, standing, stands_in, owner_of}
 use Rattle.catalog_rows_laws.proofs.Changed.{ours}
 use Rattle.catalog_rows_laws.proofs.Alone.{class_alone, rule_alone, column_alone, place_alone, same_list, view_alone}
 use Rattle.catalog_rows_laws.proofs.Exact.{same_options}
@@ -58,20 +58,9 @@ same_schemas : (rows : Rows) (n m : Numbered) (cat other : Catalog) → Two rows
 same_schemas rows n m cat other two name = same_options (finite_map.get n.schemas name) (finite_map.get m.schemas name)
     (λ id. same_schema_id rows n m cat other two name id) (λ id. same_schema_id rows m n other cat (two_turned rows n m cat other two) name id)
 
-some_there : {X : Type 0} (o : Option X) → is_some o ≡ true → (x : X) × (o ≡ Some x)
-some_there None e = absurd cc
-some_there (Some x) e = (x, refl)
-
--- the schema of an object has an id
-owner_of : (n : Numbered) (cat : Catalog) → IsWith n cat → (a : ObjName) (st : Standing) → finite_map.get n.objects a ≡ Some st → (s : ℕ) × Has n (ObjectIs a s st.id st.placed)
-owner_of n cat w a st e =
-    let there : StandsIn cat a st.placed = record { is = w.of.objects a ∙ ap (option_map placed_in) e } in
-    let schema = some_there (finite_map.get n.schemas a.schema) (sym (w.of.schemas a.schema) ∙ w.valid.schemas_there a st.placed there) in
-    (schema.0, (schema.1, e))
-
 same_standing : (rows : Rows) (n m : Numbered) (cat other : Catalog) → Two rows n m cat other → (a : ObjName) (st : Standing) → finite_map.get n.objects a ≡ Some st → finite_map.get m.objects a ≡ Some st
 same_standing rows n m cat other two a st e =
-    let h = owner_of n cat two.left a st e in
+    let h = owner_of n cat two.left.of two.left.valid a st e in
     let t = twin rows n m cat other two a h.0 st.id st.placed h.1 in
     let alike : Alike st.placed t.with = record {
       left = sound n cat two.left a h.0 st.id st.placed h.1;

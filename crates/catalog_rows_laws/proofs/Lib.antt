@@ -11,3 +11,4 @@ pub mod Formed
 pub mod Values
 pub mod Objects
 pub mod Determined
+pub mod Numbers

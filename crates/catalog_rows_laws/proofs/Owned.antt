@@ -2,7 +2,7 @@
 use Rattle.std.proofs.Common.{◌≡◌, ◌⊎◌, inl, inr, ℕ, ◌<◌, ◌^◌, Bool, true, false, List, [], ◌∷◌, Option, Some, None, refl, sym, ap, subst, ◌∙◌, arith}
 use Rattle.std.specs.Prelude.{slice_get, ◌||◌}
 use Rattle.std.specs.Cmp.Lexicographic.{nat_list_eq_equiv}
-use Rattle.std.specs.Option.{option_map}
+use Rattle.std.specs.Option.{option_map, is_some}
 use Rattle.std.specs.Str.{bytes_eq}
 use Rattle.std.specs.FinMap as finite_map
 use Rattle.dd_names.specs.Names.{fold}
@@ -30,6 +30,17 @@ standing id placed = record { id = id; placed = placed }
 
 pub stands_in : (n : Numbered) (cat : Catalog) → IsOf n cat → (name : ObjName) (schema id : ℕ) (placed : Placed) → Has n (ObjectIs name schema id placed) → StandsIn cat name placed
 stands_in n cat of name schema id placed has = record { is = of.objects name ∙ ap (option_map placed_in) has.1 }
+
+some_there : {X : Type 0} (o : Option X) → is_some o ≡ true → (x : X) × (o ≡ Some x)
+some_there None e = absurd cc
+some_there (Some x) e = (x, refl)
+
+-- the schema of an object of a valid catalog has an id
+pub owner_of : (n : Numbered) (cat : Catalog) → IsOf n cat → IsValid cat → (a : ObjName) (st : Standing) → finite_map.get n.objects a ≡ Some st → (s : ℕ) × Has n (ObjectIs a s st.id st.placed)
+owner_of n cat of valid a st e =
+    let there : StandsIn cat a st.placed = record { is = of.objects a ∙ ap (option_map placed_in) e } in
+    let schema = some_there (finite_map.get n.schemas a.schema) (sym (of.schemas a.schema) ∙ valid.schemas_there a st.placed there) in
+    (schema.0, (schema.1, e))
 
 pub same_id : (n : Numbered) → IsApart n → (a b : ObjName) (s t id other : ℕ) (placed with : Placed) → Has n (ObjectIs a s id placed) → Has n (ObjectIs b t other with) → id ≡ other → a ≡ b
 same_id n apart a b s t id other placed with p q e = apart.objects a b (standing id placed) (standing other with) p.1 q.1 e
