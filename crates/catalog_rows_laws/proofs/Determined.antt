@@ -105,7 +105,7 @@ same_next next more (Some value) c d low high =
     let same : Long next ∷ [] ≡ Long more ∷ [] = same_all (Long next ∷ []) (Long more ∷ []) refl (low, tt) (high, tt) (sym c ∙ d) in
     cc
 
-with_ids : (rows : Rows) (n : Numbered) (next : ℕ) (cat : Catalog) → StandsWith rows n next cat → IsWith n cat
+pub with_ids : (rows : Rows) (n : Numbered) (next : ℕ) (cat : Catalog) → StandsWith rows n next cat → IsWith n cat
 with_ids rows n next cat s = record { of = s.numbered; valid = s.valid; apart = s.apart }
 
 -- the ids, the next number, and the catalog

@@ -194,7 +194,7 @@ erases_own n cat w owner other p r q value row e = by owner p (either_or (is_ins
         (one_row n cat w owner other q own.0 value p r own.1 row).0
 
 -- an erasure takes away rows of owners alone
-erased_ours : (owner : Owner) (q : List ℕ) → is_erased owner q ≡ true → is_others q ≡ false
+pub erased_ours : (owner : Owner) (q : List ℕ) → is_erased owner q ≡ true → is_others q ≡ false
 erased_ours owner q e = by (either_or (is_inside owner q) (is_among q (named_row owner ∷ links_of owner)) e)
   where
     no_others : (tag : ℕ) (rest : List ℕ) → (tag < 9) → is_others (tag ∷ rest) ≡ false
@@ -218,7 +218,7 @@ all_gone [] owner q h e = absurd h
 all_gone (x ∷ owners) owner q (inl same) e = left_or (is_erased x q) (are_erased owners q) (ap (λ (o : Owner). is_erased o q) same ∙ e)
 all_gone (x ∷ owners) owner q (inr h) e = right_or (is_erased x q) (are_erased owners q) (all_gone owners owner q h e)
 
-one_gone : (owners : List Owner) (q : List ℕ) → are_erased owners q ≡ true → (owner : Owner) × IsOne owner owners × (is_erased owner q ≡ true)
+pub one_gone : (owners : List Owner) (q : List ℕ) → are_erased owners q ≡ true → (owner : Owner) × IsOne owner owners × (is_erased owner q ≡ true)
 one_gone [] q e = absurd cc
 one_gone (x ∷ owners) q e = by (either_or (is_erased x q) (are_erased owners q) e) (one_gone owners q)
   where

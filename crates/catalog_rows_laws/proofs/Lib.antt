@@ -12,3 +12,4 @@ pub mod Values
 pub mod Objects
 pub mod Determined
 pub mod Numbers
+pub mod Stand
