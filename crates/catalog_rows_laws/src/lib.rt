@@ -1,9 +1,9 @@
-//! Rows stand for one catalog, and follow its changes.
+//! Rows stand for one catalog, follow its changes, and are as they are written.
 #![tactic(auto)]
 
-ghost use Rattle.std.specs.Prelude.{ℕ};
+mod laws;
 
-/// Nothing.
-pub fn probe()
-    ensures { (n : ℕ) → Unit {0} }
-{}
+pub use laws::{
+    batches_grow, numbers_stay_apart, rows_are_as_written, rows_begin, rows_determine_catalogs,
+    rows_follow_changes,
+};
