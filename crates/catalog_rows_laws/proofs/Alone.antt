@@ -1,13 +1,11 @@
 -- What the fields of a part determine.
-use Rattle.std.proofs.Common.{◌≡◌, ◌⊎◌, inl, inr, ℕ, zero, suc, ◌+◌, ◌<◌, ◌≤◌, ◌^◌, Bool, true, false, cond, not, ◌&&◌, List, [], ◌∷◌, ◌++◌, map, length, get_or, Option, Some, None, refl, sym, ap, subst, ◌∙◌, arith}
-use Rattle.std.specs.Prelude.{slice_get, ◌||◌, ◌==◌, position, nat_lt, nat_eq, if◌then◌else◌}
-use Rattle.std.specs.List.{list_all, list_any, flat_map, AllByRecursion, position_or_len, prefix_len}
-use Rattle.std.specs.Option.{option_map, unwrap_or}
+use Rattle.std.proofs.Common.{◌≡◌, ℕ, suc, ◌+◌, ◌<◌, Bool, true, false, List, [], ◌∷◌, ◌++◌, map, length, Option, Some, None, refl, sym, ap, ◌∙◌, arith}
+use Rattle.std.specs.Prelude.{slice_get, ◌||◌, ◌==◌, if◌then◌else◌}
+use Rattle.std.specs.List.{list_any, flat_map, position_or_len}
 use Rattle.std.specs.Str.{bytes_eq}
 use Rattle.std.proofs.lemmas.Slice.Eq.{bytes_eq-Decides}
 use Rattle.std.proofs.lemmas.List.Concat.{flat_map-append}
 use Rattle.std.proofs.lemmas.Bool.{lt-ltb}
-use Rattle.sql_types.specs.declared.choices.IntSize.{IntSize}
 use Rattle.sql_types.specs.declared.choices.IntSize.TheVariants as sizes
 use Rattle.sql_types.specs.declared.choices.ColumnType.{ColumnType}
 use Rattle.sql_types.specs.declared.choices.ColumnType.TheVariants as types
@@ -20,17 +18,16 @@ use Rattle.dd_definitions.specs.declared.view_parts.ViewSource.{ViewSource}
 use Rattle.dd_definitions.specs.declared.view_parts.ViewColumn.{ViewColumn}
 use Rattle.dd_definitions.specs.declared.view_parts.ViewParts.{ViewParts}
 use Rattle.dd_definitions.specs.Columns.{is_column}
-use Rattle.row_fields.specs.declared.fields.Field.{Field}
-use Rattle.row_fields.specs.declared.fields.Field.TheVariants.{Byte, Short, Long, Text, Maybe}
+use Rattle.row_fields.specs.declared.fields.Field.TheVariants.{Short, Long}
 use Rattle.row_fields.specs.declared.fields.Kind.{Kind}
 use Rattle.row_fields.specs.declared.fields.Kind.TheVariants as kinds
-use Rattle.row_fields.specs.Fields.{Fits, kind_of, field_bytes, fields_bytes}
+use Rattle.row_fields.specs.Fields.{kind_of, field_bytes, fields_bytes}
 use Rattle.row_fields.specs.Repeated.{repeated}
 use Rattle.row_fields.proofs.Again.{same_fields, same_all}
 use Rattle.row_fields.proofs.Repeats.{kinds_repeat}
-use Rattle.catalog_rows.specs.Parts.{flag, size_number, type_number, type_length, class_number, rule_number, column_fields, column_place, source_fields, output_fields, view_fields}
-use Rattle.catalog_rows.specs.Stands.{FitsSource, FitsOutput, FitsView}
-use Rattle.catalog_rows.proofs.Fitting.{sources_fit, outputs_fit, both_fit}
+use Rattle.catalog_rows.specs.Parts.{flag, type_number, type_length, class_number, rule_number, column_fields, column_place, source_fields, output_fields, view_fields}
+use Rattle.catalog_rows.specs.Stands.{FitsView}
+use Rattle.catalog_rows.proofs.Fitting.{sources_fit, outputs_fit}
 
 -- ## Choices
 

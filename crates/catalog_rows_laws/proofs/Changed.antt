@@ -1,15 +1,12 @@
 -- The rows behind a batch, by what it takes away and what it puts.
-use Rattle.std.proofs.Common.{◌≡◌, ◌⊎◌, inl, inr, ℕ, Bool, true, false, cond, List, [], ◌∷◌, Option, Some, None, refl, sym, ap, subst, ◌∙◌}
-use Rattle.std.specs.Option.{option_map, option_or}
-use Rattle.std.specs.Prelude.{slice_get}
+use Rattle.std.proofs.Common.{◌≡◌, ◌⊎◌, inl, inr, ℕ, Bool, true, false, cond, List, ◌∷◌, Option, Some, None, refl, sym, ap, ◌∙◌}
+use Rattle.std.specs.Option.{option_or}
 use Rattle.std.specs.FinMap as finite_map
-use Rattle.dd_names.specs.declared.object_name.ObjName.{ObjName}
-use Rattle.dd_catalog.specs.Catalog.{Placed}
 use Rattle.row_batch.specs.declared.operation.Operation.{Operation}
 use Rattle.row_batch.specs.Rows.{Rows}
 use Rattle.row_batch.specs.Meaning.{made_of}
 use Rattle.row_fields.specs.Fields.{fields_bytes}
-use Rattle.catalog_rows.specs.Owners.{Owner, SchemaIs, ObjectIs, Row, schema_row, key_bytes, Inside, Column, Index, IndexColumn, ForeignKey, KeyColumn, Query, Place, Named, Under, Child, Constraint, row_at, HasRow}
+use Rattle.catalog_rows.specs.Owners.{Owner, SchemaIs, ObjectIs, Row, key_bytes, Column, Index, IndexColumn, ForeignKey, KeyColumn, Query, Place, Named, Under, Child, Constraint, row_at, HasRow}
 use Rattle.catalog_rows.specs.Stands.{Numbered, Has, RowsAre, is_others}
 use Rattle.catalog_rows.specs.Changes.{MakesOf}
 use Rattle.catalog_rows_laws.proofs.Keys.{tag_at, object_tag, schema_only}

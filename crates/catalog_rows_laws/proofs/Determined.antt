@@ -1,47 +1,21 @@
 -- Rows determine the catalog that they stand for.
-use Rattle.std.proofs.Common.{◌≡◌, ◌⊎◌, inl, inr, ℕ, zero, suc, ◌+◌, ◌<◌, ◌≤◌, ◌^◌, Bool, true, false, cond, ◌&&◌, List, [], ◌∷◌, ◌++◌, map, length, get_or, Option, Some, None, refl, sym, ap, subst, ◌∙◌, arith}
-use Rattle.std.specs.Prelude.{slice_get, ◌==◌}
-use Rattle.std.specs.List.{list_all, AllByRecursion}
-use Rattle.std.specs.Option.{option_map, is_some}
+use Rattle.std.proofs.Common.{◌≡◌, ℕ, ◌<◌, ◌^◌, List, [], ◌∷◌, Option, Some, None, refl, sym, ap, subst, ◌∙◌}
+use Rattle.std.specs.Option.{is_some}
 use Rattle.std.specs.FinMap as finite_map
 use Rattle.std.specs.Cmp.Lexicographic.{nat_list_cmp_total}
-use Rattle.std.proofs.lemmas.Bool.{and_parts, eqb-true}
-use Rattle.std.proofs.lemmas.List.{same_lists}
-use Rattle.std.proofs.lemmas.Option.{get_or_from_slice_get, slice_get-get_or, slice_get_within}
-use Rattle.dd_names.specs.Names.{is_name, IsName}
 use Rattle.dd_names.specs.declared.object_name.ObjName.{ObjName}
-use Rattle.dd_definitions.specs.declared.columns.ColumnDef.{ColumnDef}
-use Rattle.dd_definitions.specs.declared.indexes.IndexDef.{IndexDef}
-use Rattle.dd_definitions.specs.declared.foreign_keys.ForeignKeyDef.{ForeignKeyDef}
-use Rattle.dd_definitions.specs.declared.parts.TableParts.{TableParts}
-use Rattle.dd_definitions.specs.declared.view_parts.ViewParts.{ViewParts}
-use Rattle.dd_definitions.specs.Columns.{is_column, are_key_columns}
-use Rattle.dd_definitions.specs.Indexes.{is_index_formed, are_indexes_formed}
-use Rattle.dd_definitions.specs.ForeignKeys.{is_foreign_key_formed, are_foreign_keys_formed}
-use Rattle.dd_definitions.specs.Named.{has_names, is_foreign_key_named}
-use Rattle.dd_definitions.specs.WellFormed.{is_well_formed}
-use Rattle.dd_catalog.specs.Catalog.{Catalog, Placed, Table, View, foreign_keys_of, object_cmp}
-use Rattle.dd_catalog.specs.Valid.{IsValid, own_name, is_placed_named, is_placed_formed, Has as StandsIn}
-use Rattle.dd_catalog.proofs.ObjectNames.{object_total, object_alone, name_alone, name_is}
+use Rattle.dd_catalog.specs.Catalog.{Catalog, Placed}
+use Rattle.dd_catalog.specs.Valid.{own_name}
+use Rattle.dd_catalog.proofs.ObjectNames.{object_total, object_alone, name_alone}
 use Rattle.row_batch.specs.Rows.{Rows}
-use Rattle.row_fields.specs.declared.fields.Field.{Field}
-use Rattle.row_fields.specs.declared.fields.Field.TheVariants.{Byte, Short, Long, Text, Ended, Maybe}
-use Rattle.row_fields.specs.declared.fields.Kind.{Kind}
-use Rattle.row_fields.specs.declared.fields.Kind.TheVariants as kinds
-use Rattle.row_fields.specs.Fields.{Fits, kind_of, fields_bytes}
+use Rattle.row_fields.specs.declared.fields.Field.TheVariants.{Long}
 use Rattle.row_fields.proofs.Again.{same_all}
-use Rattle.catalog_rows.specs.Parts.{column_fields, index_fields, column_place, index_column_fields, key_fields, key_column_fields, view_fields, class_number, rule_number}
-use Rattle.catalog_rows.specs.Owners.{Owner, SchemaIs, ObjectIs, RowKey, Row, key_bytes, object_fields, schema_row, object_row, Inside, Column, Index, IndexColumn, ForeignKey, KeyColumn, Query, tag_of, numbers_of, inside_row, columns_in, indexes_in, index_columns_at, key_columns_at, parents_at, query_fields, value_at, Place, Named, Under, Child, Constraint, row_at, HasRow}
-use Rattle.catalog_rows.specs.Stands.{Standing, Numbered, placed_in, Has, IsOf, FitsColumn, FitsIndex, FitsKey, FitsView, FitsPlaced, FitsOwner, FitsSpace, FitsObject, IsApart, RowsAre, StandsWith}
-use Rattle.catalog_rows.proofs.Fitting.{column_fits, index_fits, key_fits, text_fits, place_fits}
-use Rattle.catalog_rows_laws.proofs.Lists.{some_of, index_of, index_columns_are, key_with, key_columns_are, parents_are}
-use Rattle.catalog_rows_laws.proofs.Keys.{some_is, all_get, same_key, tag_at, tag_low, tag_high, object_tag, no_schema_tag, schema_only, inside_alone}
+use Rattle.catalog_rows.specs.Owners.{ObjectIs}
+use Rattle.catalog_rows.specs.Stands.{Standing, Numbered, Has, IsOf, StandsWith}
 use Rattle.catalog_rows_laws.proofs.Owned.{IsWith, standing, stands_in, owner_of}
-use Rattle.catalog_rows_laws.proofs.Changed.{ours}
-use Rattle.catalog_rows_laws.proofs.Alone.{class_alone, rule_alone, column_alone, place_alone, same_list, view_alone}
 use Rattle.catalog_rows_laws.proofs.Exact.{same_options}
 use Rattle.catalog_rows.specs.Stands.{Counts, counter_key}
-use Rattle.catalog_rows_laws.proofs.Twins.{Two, turned as two_turned, same_schema_id, Twin, twin, valued}
+use Rattle.catalog_rows_laws.proofs.Twins.{Two, turned as two_turned, same_schema_id, twin, valued}
 use Rattle.catalog_rows_laws.proofs.Values.{IsSound, Alike}
 use Rattle.catalog_rows_laws.proofs.Objects.{same_object}
 

@@ -1,30 +1,30 @@
 -- What an erasure takes away: all rows of its owner, and of no other. So a batch of some that go and some that come leads from
 -- rows that stand for a catalog to rows that stand for the one that follows.
-use Rattle.std.proofs.Common.{◌≡◌, ◌⊎◌, inl, inr, ℕ, zero, suc, ◌+◌, ◌<◌, ◌^◌, Bool, true, false, cond, not, ◌&&◌, List, [], ◌∷◌, ◌++◌, map, Option, Some, None, refl, sym, ap, subst, ◌∙◌, append_assoc, arith}
-use Rattle.std.specs.Prelude.{nat_eq, slice_get, ◌||◌}
-use Rattle.std.specs.List.{flat_map, list_any, AllByRecursion, starts_with}
-use Rattle.std.specs.Option.{option_map, option_or}
+use Rattle.std.proofs.Common.{◌≡◌, ◌⊎◌, inl, inr, ℕ, ◌<◌, ◌^◌, Bool, true, false, cond, List, [], ◌∷◌, ◌++◌, Option, Some, None, refl, sym, ap, subst, ◌∙◌, arith}
+use Rattle.std.specs.Prelude.{nat_eq, ◌||◌}
+use Rattle.std.specs.List.{list_any, AllByRecursion, starts_with}
+use Rattle.std.specs.Option.{option_or}
 use Rattle.std.specs.FinMap as finite_map
 use Rattle.std.proofs.lemmas.Cmp.{nat_eq_equiv}
 use Rattle.std.proofs.lemmas.Bool.{eqb-true, and_parts}
 use Rattle.std.proofs.lemmas.List.Concat.{flat_map-append}
 use Rattle.std.proofs.lemmas.Bool.Decides.{nat_tests}
 use Rattle.dd_names.specs.declared.object_name.ObjName.{ObjName}
-use Rattle.dd_catalog.specs.Catalog.{Catalog, Placed, Table, View, foreign_keys_of}
+use Rattle.dd_catalog.specs.Catalog.{Catalog, Placed, Table, View}
 use Rattle.dd_catalog.specs.Valid.{IsValid}
 use Rattle.row_batch.specs.declared.operation.Operation.{Operation}
 use Rattle.row_batch.specs.Rows.{Rows, is_key, is_under}
 use Rattle.row_batch.proofs.Meanings.{is_key_same, is_key_itself}
 use Rattle.row_fields.specs.declared.fields.Field.{Field}
 use Rattle.row_fields.specs.declared.fields.Field.TheVariants.{Long}
-use Rattle.row_fields.specs.Fields.{Fits, kind_of, field_bytes, fields_bytes}
+use Rattle.row_fields.specs.Fields.{field_bytes, fields_bytes}
 use Rattle.row_fields.proofs.Again.{same_fields}
-use Rattle.catalog_rows.specs.Owners.{Owner, SchemaIs, ObjectIs, RowKey, Row, key_of, key_bytes, named_row, Inside, Column, Index, IndexColumn, ForeignKey, KeyColumn, Query, tag_of, numbers_of, inside_row, value_at, Place, Named, Under, Child, Constraint, row_at, HasRow}
+use Rattle.catalog_rows.specs.Owners.{Owner, SchemaIs, ObjectIs, Row, key_bytes, named_row, Inside, Column, Index, IndexColumn, ForeignKey, KeyColumn, Query, tag_of, numbers_of, inside_row, value_at, Place, Named, Under, Child, Constraint, row_at, HasRow}
 use Rattle.catalog_rows.specs.Lists.{links_of, rows_of, rows_of_all}
-use Rattle.catalog_rows.specs.Stands.{Numbered, Has, IsOf, FitsOwner, IsApart, RowsAre, is_others, counter_key, next_bytes, Counts, IsBelow, StandsWith}
-use Rattle.catalog_rows.specs.Changes.{no_put, put_behind, with_counter, is_among, is_of, inside_tags, is_inside, is_erased, are_erased, Exchanges, next_after, IsOne, Follows, MakesOf}
-use Rattle.catalog_rows_laws.proofs.Lists.{Among, among_first, among_second, among_either, some_of, Stood, stood, named_stood, link_stood, child_linked, constraint_linked, listed, PutFrom, put_is, IsPut, row_put, KeyFrom, among_key, key_among}
-use Rattle.catalog_rows_laws.proofs.Keys.{some_is, head_of, tag_at, tag_low, tag_high, object_tag, schema_only}
+use Rattle.catalog_rows.specs.Stands.{Numbered, Has, IsOf, FitsOwner, IsApart, is_others, counter_key, next_bytes, Counts, IsBelow, StandsWith}
+use Rattle.catalog_rows.specs.Changes.{no_put, put_behind, is_among, is_of, inside_tags, is_inside, is_erased, are_erased, Exchanges, next_after, IsOne, Follows, MakesOf}
+use Rattle.catalog_rows_laws.proofs.Lists.{Among, among_first, among_second, among_either, some_of, Stood, stood, named_stood, link_stood, child_linked, constraint_linked, listed, PutFrom, put_is, row_put, among_key, key_among}
+use Rattle.catalog_rows_laws.proofs.Keys.{some_is, head_of, object_tag, schema_only}
 use Rattle.catalog_rows_laws.proofs.Owned.{IsWith, same_id, same_owner, one_row}
 use Rattle.catalog_rows_laws.proofs.Changed.{OneValue, Leads, MeansOurs, ours, changed}
 

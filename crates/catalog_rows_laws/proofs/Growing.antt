@@ -1,11 +1,10 @@
 -- A batch that grows by what functions add to it.
-use Rattle.std.proofs.Common.{◌≡◌, ℕ, Bool, true, false, List, [], ◌∷◌, ◌++◌, Option, Some, None, refl, sym, ap, ◌∙◌}
+use Rattle.std.proofs.Common.{◌≡◌, ℕ, List, [], ◌∷◌, ◌++◌, Option, Some, None, refl, sym, ap, ◌∙◌}
 use Rattle.std.specs.Option.{option_or}
 use Rattle.std.specs.Prelude.{if◌then◌else◌}
 use Rattle.std.proofs.lemmas.List.{append-nil}
 use Rattle.std.proofs.lemmas.List.Concat.{flat_map-append}
 use Rattle.row_batch.specs.declared.operation.Operation.{Operation}
-use Rattle.row_batch.proofs.Meanings.{means_nothing}
 use Rattle.catalog_rows.specs.Owners.{Owner, Row}
 use Rattle.catalog_rows.specs.Lists.{rows_of, rows_of_all}
 use Rattle.catalog_rows.specs.Stands.{counter_row}

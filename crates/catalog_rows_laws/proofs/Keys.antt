@@ -1,33 +1,26 @@
 -- A key determines whose row it is, and at which place.
-use Rattle.std.proofs.Common.{◌≡◌, ◌⊎◌, inl, inr, ℕ, zero, suc, ◌+◌, ◌<◌, ◌≤◌, ◌^◌, Bool, true, false, cond, not, ◌&&◌, List, [], ◌∷◌, ◌++◌, map, length, Option, Some, None, refl, sym, ap, subst, ◌∙◌, arith}
-use Rattle.std.specs.Prelude.{nat_eq, slice_get, ◌||◌, ◌==◌, if◌then◌else◌}
-use Rattle.std.specs.Cmp.Lexicographic.{nat_list_eq_equiv}
-use Rattle.std.specs.List.{list_all, list_any, AllByRecursion}
-use Rattle.std.specs.Option.{option_map, is_some}
-use Rattle.std.specs.Str.{bytes_eq}
-use Rattle.std.specs.FinMap as finite_map
+use Rattle.std.proofs.Common.{◌≡◌, ℕ, zero, suc, ◌<◌, ◌^◌, Bool, true, false, not, List, [], ◌∷◌, map, length, Option, Some, refl, sym, ap, subst, ◌∙◌, arith}
+use Rattle.std.specs.Prelude.{slice_get, ◌||◌, ◌==◌, if◌then◌else◌}
+use Rattle.std.specs.List.{list_any, AllByRecursion}
 use Rattle.std.proofs.lemmas.Option.{slice_get_within}
 use Rattle.std.proofs.lemmas.Bool.{and_parts}
-use Rattle.dd_names.specs.Names.{IsName, fold}
+use Rattle.dd_names.specs.Names.{fold}
 use Rattle.dd_names.specs.declared.object_name.ObjName.{ObjName}
 use Rattle.dd_names.proofs.Folding.{fold-IsName}
-use Rattle.dd_definitions.specs.declared.indexes.IndexDef.{IndexDef}
-use Rattle.dd_definitions.specs.declared.foreign_keys.ForeignKeyDef.{ForeignKeyDef}
 use Rattle.dd_definitions.specs.Distinct.{are_distinct}
 use Rattle.dd_definitions.specs.WellFormed.{is_well_formed}
 use Rattle.dd_definitions.specs.ForeignKeys.{is_same_constraint, are_foreign_keys_formed}
-use Rattle.dd_catalog.specs.Catalog.{Catalog, Placed, Table, View, foreign_keys_of, has_constraint}
-use Rattle.dd_catalog.specs.Valid.{IsValid, is_placed_formed, Has as StandsIn}
+use Rattle.dd_catalog.specs.Catalog.{Placed, Table, View, foreign_keys_of}
+use Rattle.dd_catalog.specs.Valid.{is_placed_formed}
 use Rattle.row_fields.specs.declared.fields.Field.{Field}
-use Rattle.row_fields.specs.declared.fields.Field.TheVariants.{Byte, Short, Long, Text, Ended}
 use Rattle.row_fields.specs.declared.fields.Kind.{Kind}
 use Rattle.row_fields.specs.declared.fields.Kind.TheVariants as kinds
 use Rattle.row_fields.specs.Fields.{Fits, kind_of, fields_bytes}
 use Rattle.row_fields.proofs.Again.{same_all}
-use Rattle.catalog_rows.specs.Owners.{Owner, SchemaIs, ObjectIs, RowKey, key_of, key_bytes, Row, schema_row, object_row, Inside, Column, Index, IndexColumn, ForeignKey, KeyColumn, Query, tag_of, numbers_of, inside_row, columns_in, indexes_in, index_columns_at, key_columns_at, value_at, child_row, constraint_row, Place, Named, Under, Child, Constraint, row_at, HasRow}
+use Rattle.catalog_rows.specs.Owners.{Owner, SchemaIs, ObjectIs, key_bytes, Row, schema_row, object_row, Inside, Column, Index, IndexColumn, ForeignKey, KeyColumn, Query, tag_of, numbers_of, inside_row, columns_in, indexes_in, index_columns_at, key_columns_at, value_at, child_row, constraint_row, Place, Named, Under, Child, Constraint, row_at}
 use Rattle.catalog_rows.specs.Parts.{column_fields, index_fields, index_column_fields, key_fields, key_column_fields}
 use Rattle.catalog_rows.specs.Owners.{parents_at}
-use Rattle.catalog_rows.specs.Stands.{Standing, Numbered, placed_in, Has, IsOf, FitsIndex, FitsKey, FitsPlaced, FitsOwner, IsApart}
+use Rattle.catalog_rows.specs.Stands.{FitsIndex, FitsKey, FitsPlaced, FitsOwner}
 use Rattle.catalog_rows.proofs.Fitting.{ended_fits}
 use Rattle.catalog_rows_laws.proofs.Lists.{some_of, index_of, key_with}
 

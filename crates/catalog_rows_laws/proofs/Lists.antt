@@ -11,9 +11,9 @@ use Rattle.row_batch.proofs.Meanings.{is_key_same, is_key_itself}
 use Rattle.row_fields.specs.declared.fields.Field.{Field}
 use Rattle.row_fields.specs.Fields.{fields_bytes}
 use Rattle.catalog_rows.specs.Parts.{column_fields, index_fields, index_column_fields, key_fields, key_column_fields, view_fields}
-use Rattle.catalog_rows.specs.Owners.{Owner, SchemaIs, ObjectIs, Row, key_bytes, named_row, Inside, Column, Index, IndexColumn, ForeignKey, KeyColumn, Query, inside_row, columns_in, indexes_in, index_columns_at, key_columns_at, parents_at, query_fields, value_at, child_row, constraint_row, Place, Named, Under, Child, Constraint, row_at, HasRow}
-use Rattle.catalog_rows.specs.Lists.{numbered, column_rows, index_column_rows, index_rows, key_column_rows, key_rows, link_rows, query_rows, inside_rows, links_of, rows_under, rows_of}
-use Rattle.catalog_rows.specs.Changes.{no_put, with_put, put_behind, is_among}
+use Rattle.catalog_rows.specs.Owners.{Owner, SchemaIs, ObjectIs, Row, key_bytes, named_row, Inside, Column, Index, IndexColumn, ForeignKey, KeyColumn, Query, inside_row, columns_in, indexes_in, index_columns_at, key_columns_at, parents_at, query_fields, value_at, child_row, constraint_row, Place, Named, Under, Child, Constraint, row_at}
+use Rattle.catalog_rows.specs.Lists.{numbered, column_rows, index_column_rows, index_rows, key_column_rows, key_rows, link_rows, query_rows, inside_rows, links_of, rows_of}
+use Rattle.catalog_rows.specs.Changes.{with_put, put_behind, is_among}
 
 abbrev pub Among : Row → List Row → Type 0
 Among row [] = ⊥

@@ -1,12 +1,9 @@
 -- Ids stay apart, and below the next number.
-use Rattle.std.proofs.Common.{◌≡◌, ◌⊎◌, inl, inr, ℕ, ◌<◌, ◌≤◌, List, Option, Some, None, refl, sym, ap, subst, ◌∙◌, arith}
-use Rattle.std.specs.Option.{option_map, is_some}
-use Rattle.std.specs.FinMap as finite_map
+use Rattle.std.proofs.Common.{◌≡◌, ◌⊎◌, inl, inr, ℕ, ◌≤◌, List, Some, refl, sym, ap, subst, ◌∙◌, arith}
 use Rattle.dd_names.specs.declared.object_name.ObjName.{ObjName}
 use Rattle.dd_catalog.specs.Catalog.{Catalog, Placed, Table, View}
-use Rattle.dd_catalog.specs.Valid.{IsValid, Has as StandsIn}
 use Rattle.catalog_rows.specs.Owners.{Owner, SchemaIs, ObjectIs}
-use Rattle.catalog_rows.specs.Stands.{Standing, Numbered, placed_in, Has, IsOf, FitsOwner, IsApart, IsSpaceBelow, IsBelow}
+use Rattle.catalog_rows.specs.Stands.{Numbered, Has, IsApart, IsSpaceBelow, IsBelow}
 use Rattle.catalog_rows.specs.Changes.{IsOne, Follows}
 use Rattle.catalog_rows_laws.specs.Changing.{IsOwnerBelow, SharesId, IsDrawn, IsNumberedFrom, ComeNumbered, LeadsTo}
 use Rattle.catalog_rows_laws.proofs.Owned.{same_id, same_owner, owner_of}

@@ -1,6 +1,6 @@
 -- Each key has one owner, at one place.
-use Rattle.std.proofs.Common.{◌≡◌, ◌⊎◌, inl, inr, ℕ, ◌<◌, ◌^◌, Bool, true, false, List, [], ◌∷◌, Option, Some, None, refl, sym, ap, subst, ◌∙◌, arith}
-use Rattle.std.specs.Prelude.{slice_get, ◌||◌}
+use Rattle.std.proofs.Common.{◌≡◌, ℕ, true, List, [], ◌∷◌, Option, Some, None, refl, sym, ap, subst, ◌∙◌, arith}
+use Rattle.std.specs.Prelude.{slice_get}
 use Rattle.std.specs.Cmp.Lexicographic.{nat_list_eq_equiv}
 use Rattle.std.specs.Option.{option_map, is_some}
 use Rattle.std.specs.Str.{bytes_eq}
@@ -11,11 +11,10 @@ use Rattle.dd_definitions.specs.declared.foreign_keys.ForeignKeyDef.{ForeignKeyD
 use Rattle.dd_definitions.specs.ForeignKeys.{is_same_constraint}
 use Rattle.dd_catalog.specs.Catalog.{Catalog, Placed, foreign_keys_of, has_constraint}
 use Rattle.dd_catalog.specs.Valid.{IsValid, Has as StandsIn}
-use Rattle.row_fields.specs.declared.fields.Field.{Field}
 use Rattle.row_fields.specs.declared.fields.Field.TheVariants.{Short, Long, Ended}
 use Rattle.row_fields.specs.Fields.{fields_bytes}
-use Rattle.catalog_rows.specs.Owners.{Owner, SchemaIs, ObjectIs, RowKey, key_of, key_bytes, Row, schema_row, object_row, Inside, tag_of, numbers_of, inside_row, value_at, child_row, constraint_row, Place, Named, Under, Child, Constraint, row_at, HasRow}
-use Rattle.catalog_rows.specs.Stands.{Standing, Numbered, placed_in, Has, IsOf, FitsOwner, IsApart}
+use Rattle.catalog_rows.specs.Owners.{Owner, SchemaIs, ObjectIs, RowKey, Row, schema_row, object_row, numbers_of, inside_row, value_at, child_row, constraint_row, Place, Named, Under, Child, Constraint, row_at, HasRow}
+use Rattle.catalog_rows.specs.Stands.{Standing, Numbered, placed_in, Has, IsOf, IsApart}
 use Rattle.catalog_rows_laws.proofs.Lists.{some_of}
 use Rattle.catalog_rows_laws.proofs.Keys.{some_is, same_key, tag_at, tag_low, tag_high, object_tag, no_schema_tag, schema_only, inside_alone, keys_distinct, any_at, one_place}
 
@@ -57,7 +56,6 @@ same_schema : (n : Numbered) → IsApart n → (a b : ObjName) (s t id other : �
 same_schema n apart a b s t id other placed with p q e = apart.schemas a.schema b.schema s p.0 (q.0 ∙ ap Some (sym e))
 
 -- the keys of two rows, where the rows are known
-
 
 fields_from : (x y at other : Row) → x ≡ at → y ≡ other → at.key ≡ other.key → x.key.fields ≡ y.key.fields
 fields_from x y at other p q e = ap (λ (r : Row). r.key.fields) p ∙ ap (λ (k : RowKey). k.fields) e ∙ sym (ap (λ (r : Row). r.key.fields) q)

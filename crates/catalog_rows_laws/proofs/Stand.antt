@@ -7,18 +7,17 @@ use Rattle.dd_names.specs.Names.{name_cmp}
 use Rattle.row_batch.specs.Order.{key_cmp}
 use Rattle.dd_names.specs.declared.object_name.ObjName.{ObjName}
 use Rattle.dd_names.specs.declared.object_name.ObjectKey.{ObjectKey}
-use Rattle.dd_catalog.specs.Catalog.{Catalog, Placed, Table, View, object_cmp, empty_catalog, sight_of}
+use Rattle.dd_catalog.specs.Catalog.{Catalog, Placed, Table, object_cmp, empty_catalog, sight_of}
 use Rattle.dd_catalog.specs.Valid.{IsValid, Has as StandsIn}
 use Rattle.row_batch.specs.declared.operation.Operation.{Operation}
 use Rattle.row_batch.specs.Rows.{Rows, no_rows}
-use Rattle.catalog_rows.specs.Owners.{Owner, SchemaIs, ObjectIs, HasRow}
+use Rattle.catalog_rows.specs.Owners.{Owner, SchemaIs, ObjectIs}
 use Rattle.catalog_rows.specs.Lists.{rows_of_all}
-use Rattle.catalog_rows.specs.Stands.{Standing, Numbered, placed_in, Has, IsOf, FitsOwner, IsApart, RowsAre, is_others, counter_key, Counts, IsBelow, StandsWith, Stands}
+use Rattle.catalog_rows.specs.Stands.{Standing, Numbered, placed_in, Has, IsOf, IsApart, is_others, counter_key, Counts, IsBelow, StandsWith, Stands}
 use Rattle.catalog_rows.specs.Changes.{IsOne, put_behind, no_put, Exchanges, next_after, MakesOf}
 use Rattle.catalog_rows_laws.specs.Laws.{AreHad, ListsOwners, no_numbered}
 use Rattle.catalog_rows_laws.specs.Changing.{ComeNumbered, LeadsTo}
 use Rattle.catalog_rows_laws.proofs.Alone.{none_some}
-use Rattle.catalog_rows_laws.proofs.Owned.{IsWith}
 use Rattle.catalog_rows_laws.proofs.Erased.{stands_follow}
 use Rattle.catalog_rows_laws.proofs.Numbers.{stays_below, stays_apart}
 use Rattle.catalog_rows_laws.proofs.Exact.{are_where_written, written_where_are, same_again}

@@ -1,5 +1,5 @@
 -- What the laws of rows name.
-use Rattle.std.specs.Prelude.{ℕ, List}
+use Rattle.std.specs.Prelude.{List}
 use Rattle.std.specs.FinMap as finite_map
 use Rattle.catalog_rows.specs.Owners.{Owner}
 use Rattle.catalog_rows.specs.Stands.{Numbered, Has}
