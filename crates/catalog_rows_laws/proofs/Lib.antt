@@ -13,3 +13,5 @@ pub mod Objects
 pub mod Determined
 pub mod Numbers
 pub mod Stand
+pub mod Maps
+pub mod Behind
