@@ -15,3 +15,4 @@ pub mod Numbers
 pub mod Stand
 pub mod Maps
 pub mod Behind
+pub mod Owners

@@ -10,8 +10,9 @@ ghost use Rattle.catalog_rows.specs.Lists.{rows_of, rows_of_all};
 ghost use Rattle.catalog_rows.specs.Stands.{Counts, IsApart, IsBelow, IsOf, Numbered, Stands, StandsWith, counter_key, counter_row, is_others};
 ghost use Rattle.catalog_rows.specs.Changes.{Exchanges, Follows, IsOne, MakesOf, is_erased, next_after, no_put, put_behind};
 ghost use Rattle.catalog_rows.specs.Adding.{Adds, Takes};
+ghost use Rattle.catalog_rows_laws.specs.Behind.{CanExchange, catalog_behind, numbered_behind};
 ghost use Rattle.catalog_rows_laws.specs.Changing.{ComeNumbered, LeadsTo};
-ghost use Rattle.catalog_rows_laws.specs.Laws.{AreHad, ListsOwners, no_numbered};
+ghost use Rattle.catalog_rows_laws.specs.Laws.{AreHad, ListsOwners, no_numbered, owners_in};
 
 /// Without rows, the catalog is empty and the next number is 1. It does nothing when it runs.
 pub fn rows_begin()
@@ -49,12 +50,13 @@ pub fn batches_grow()
 
 /// Rows that stand for a catalog are those that its schemas and objects write, beside the counter and the records of the log.
 /// `written`: under each key of theirs is just what is written. `told`: and where that is so, the rows stand for the catalog.
-/// `again`: what some of them write, written again, be it behind an erasure, changes nothing. It does nothing when it runs.
+/// `listed`: each catalog has a list of its schemas and objects. `again`: what some of them write, written again, be it behind an erasure, changes nothing. It does nothing when it runs.
 pub fn rows_are_as_written()
     ensures written { (rows : Rows) (n : Numbered) (next : ℕ) (cat : Catalog) (owners : List Owner) → StandsWith rows n next cat → ListsOwners n owners
         → (key : List ℕ) → is_others key ≡ false → finite_map.get rows key ≡ put_behind (rows_of_all owners) no_put key }
     ensures told { (rows : Rows) (n : Numbered) (next : ℕ) (cat : Catalog) (owners : List Owner) → IsOf n cat → IsValid cat → IsApart n → IsBelow n next → ListsOwners n owners → Counts next (finite_map.get rows counter_key)
         → ((key : List ℕ) → is_others key ≡ false → finite_map.get rows key ≡ put_behind (rows_of_all owners) no_put key) → StandsWith rows n next cat }
+    ensures listed { (n : Numbered) → ListsOwners n (owners_in n) }
     ensures again { (operations : List Operation) (rows after : Rows) (n : Numbered) (next : ℕ) (cat : Catalog) (gone owners : List Owner) → StandsWith rows n next cat → AreHad n owners
         → ((owner : Owner) → IsOne owner gone → IsOne owner owners) → Exchanges operations gone owners None → MakesOf operations rows after → after ≡ rows }
 {}
@@ -64,4 +66,11 @@ pub fn rows_are_as_written()
 pub fn numbers_stay_apart()
     ensures below { (n next : Numbered) (before behind : ℕ) (now : Catalog) (gone come : List Owner) → LeadsTo n next now gone come → IsBelow n before → ComeNumbered before behind gone come → IsBelow next behind }
     ensures apart { (n next : Numbered) (before behind : ℕ) (now : Catalog) (gone come : List Owner) → LeadsTo n next now gone come → IsApart n → IsBelow n before → ComeNumbered before behind gone come → IsApart next }
+{}
+
+/// Where a change can be made of a valid catalog and leaves a valid one, those that go and those that come lead from the one to
+/// the other. It does nothing when it runs.
+pub fn exchanges_lead()
+    ensures { (n : Numbered) (cat : Catalog) (gone come : List Owner) → IsOf n cat → IsValid cat → CanExchange n gone come → IsValid (catalog_behind gone come cat)
+        → LeadsTo n (numbered_behind gone come n) (catalog_behind gone come cat) gone come }
 {}

@@ -1,3 +1,4 @@
+use Rattle.catalog_rows_laws.proofs.Owners.{lists_owners}
 use Rattle.catalog_rows_laws.proofs.Stand.{stands_written, written_stands, again_same}
 use Rattle.catalog_rows_laws.proofs.laws.rows_are_as_written.Goals as goal
 
@@ -9,3 +10,6 @@ returns-clause-told c = written_stands
 
 pub returns-clause-again : goal.returns-clause-again
 returns-clause-again c = again_same
+
+pub returns-clause-listed : goal.returns-clause-listed
+returns-clause-listed c = lists_owners
