@@ -1,7 +1,7 @@
 -- What an erasure takes away: all rows of its owner, and of no other. So a batch of some that go and some that come leads from
 -- rows that stand for a catalog to rows that stand for the one that follows.
 use Rattle.std.proofs.Common.{◌≡◌, ◌⊎◌, inl, inr, ℕ, ◌<◌, ◌^◌, Bool, true, false, cond, List, [], ◌∷◌, ◌++◌, Option, Some, None, refl, sym, ap, subst, ◌∙◌, arith}
-use Rattle.std.specs.Prelude.{nat_eq, ◌||◌}
+use Rattle.std.specs.Prelude.{nat_eq, ◌||◌, ◌&&◌, length}
 use Rattle.std.specs.List.{list_any, AllByRecursion, starts_with}
 use Rattle.std.specs.Option.{option_or}
 use Rattle.std.specs.FinMap as finite_map
@@ -22,7 +22,8 @@ use Rattle.row_fields.proofs.Again.{same_fields}
 use Rattle.catalog_rows.specs.Owners.{Owner, SchemaIs, ObjectIs, Row, key_bytes, named_row, Inside, Column, Index, IndexColumn, ForeignKey, KeyColumn, Query, tag_of, numbers_of, inside_row, value_at, Place, Named, Under, Child, Constraint, row_at, HasRow}
 use Rattle.catalog_rows.specs.Lists.{links_of, rows_of, rows_of_all}
 use Rattle.catalog_rows.specs.Stands.{Numbered, Has, IsOf, FitsOwner, IsApart, is_others, counter_key, next_bytes, Counts, IsBelow, StandsWith}
-use Rattle.catalog_rows.specs.Changes.{no_put, put_behind, is_among, is_of, inside_tags, is_inside, is_erased, are_erased, Exchanges, next_after, IsOne, Follows, MakesOf}
+use Rattle.catalog_rows.specs.Changes.{no_put, put_behind, is_among, is_of, inside_tags, is_inside, is_erased, are_erased, next_after, IsOne, Follows, MakesOf}
+use Rattle.catalog_rows_laws.specs.Beside.{is_record, ExchangesBeside}
 use Rattle.catalog_rows_laws.proofs.Lists.{Among, among_first, among_second, among_either, some_of, Stood, stood, named_stood, link_stood, child_linked, constraint_linked, listed, PutFrom, put_is, row_put, among_key, key_among}
 use Rattle.catalog_rows_laws.proofs.Keys.{some_is, head_of, object_tag, schema_only}
 use Rattle.catalog_rows_laws.proofs.Owned.{IsWith, same_id, same_owner, one_row}
@@ -293,12 +294,20 @@ counter_no_key q own = at (is_key q counter_key) refl
         let counter : is_others q ≡ true = ap is_others same in
         absurd cc
 
-without_counter : (operations : List Operation) (gone come : List Owner) (counter : Option ℕ) → Exchanges operations gone come counter → MeansOurs operations (are_erased gone) (put_behind (rows_of_all come) no_put)
-without_counter operations gone come None means = λ q own old. means.is q old
-without_counter operations gone come (Some next) means = λ q own old.
-    means.is q old ∙ ap (λ b. option_or (cond b (Some (next_bytes next)) (put_behind (rows_of_all come) no_put q)) (cond (are_erased gone q) None old)) (counter_no_key q own)
+no_record : (q : List ℕ) → is_others q ≡ false → is_record q ≡ false
+no_record [] own = refl
+no_record (tag ∷ rest) own = by (nat_eq tag 9) own
+  where
+    by : (b : Bool) → (b || (nat_eq tag 10 && nat_eq (length rest) 0)) ≡ false → b ≡ false
+    by false e = refl
+    by true e = absurd cc
 
-no_put_there : (come : List Owner) → put_behind (rows_of_all come) no_put counter_key ≡ None
+without_counter : (operations : List Operation) (gone come : List Owner) (counter : Option ℕ) → ExchangesBeside operations gone come counter → MeansOurs operations (are_erased gone) (put_behind (rows_of_all come) no_put)
+without_counter operations gone come None means = λ q own old. means.is q (no_record q own) old
+without_counter operations gone come (Some next) means = λ q own old.
+    means.is q (no_record q own) old ∙ ap (λ b. option_or (cond b (Some (next_bytes next)) (put_behind (rows_of_all come) no_put q)) (cond (are_erased gone q) None old)) (counter_no_key q own)
+
+pub no_put_there : (come : List Owner) → put_behind (rows_of_all come) no_put counter_key ≡ None
 no_put_there come = at (put_behind (rows_of_all come) no_put counter_key) refl
   where
     by : (value : List ℕ) → PutFrom (rows_of_all come) counter_key value ⊎ (no_put counter_key ≡ Some value) → ⊥
@@ -323,17 +332,17 @@ not_gone gone = at (are_erased gone counter_key) refl
         let own : is_others counter_key ≡ false = erased_ours one.0 counter_key one.2 in
         absurd cc
 
-counted : (operations : List Operation) (rows after : Rows) (before : ℕ) (gone come : List Owner) (counter : Option ℕ) → MakesOf operations rows after → Exchanges operations gone come counter
+counted : (operations : List Operation) (rows after : Rows) (before : ℕ) (gone come : List Owner) (counter : Option ℕ) → MakesOf operations rows after → ExchangesBeside operations gone come counter
     → Counts before (finite_map.get rows counter_key) → Counts (next_after counter before) (finite_map.get after counter_key)
 counted operations rows after before gone come (Some new) makes means c =
     let own : is_key counter_key counter_key ≡ true = is_key_itself counter_key in
     let is : finite_map.get after counter_key ≡ Some (next_bytes new) =
-    makes.is counter_key ∙ means.is counter_key (finite_map.get rows counter_key)
+    makes.is counter_key ∙ means.is counter_key refl (finite_map.get rows counter_key)
     ∙ ap (λ b. option_or (cond b (Some (next_bytes new)) (put_behind (rows_of_all come) no_put counter_key)) (cond (are_erased gone counter_key) None (finite_map.get rows counter_key))) own in
     subst (Counts new) (sym is) refl
 counted operations rows after before gone come None makes means c =
     let is : finite_map.get after counter_key ≡ finite_map.get rows counter_key =
-    makes.is counter_key ∙ means.is counter_key (finite_map.get rows counter_key)
+    makes.is counter_key ∙ means.is counter_key refl (finite_map.get rows counter_key)
     ∙ ap (λ p. option_or p (cond (are_erased gone counter_key) None (finite_map.get rows counter_key))) (no_put_there come)
     ∙ ap (λ b. cond b None (finite_map.get rows counter_key)) (not_gone gone) in
     subst (Counts before) (sym is) c
@@ -341,7 +350,7 @@ counted operations rows after before gone come None makes means c =
 -- ## The law of changes
 
 pub stands_follow : (operations : List Operation) (rows after : Rows) (n next : Numbered) (before : ℕ) (cat now : Catalog) (gone come : List Owner) (counter : Option ℕ)
-    → StandsWith rows n before cat → Follows n next gone come → IsOf next now → IsValid now → IsApart next → IsBelow next (next_after counter before) → Exchanges operations gone come counter → MakesOf operations rows after
+    → StandsWith rows n before cat → Follows n next gone come → IsOf next now → IsValid now → IsApart next → IsBelow next (next_after counter before) → ExchangesBeside operations gone come counter → MakesOf operations rows after
     → StandsWith after next (next_after counter before) now
 stands_follow operations rows after n next before cat now gone come counter stands f of valid apart below means makes =
     let w : IsWith n cat = record { of = stands.numbered; valid = stands.valid; apart = stands.apart } in

@@ -21,15 +21,17 @@ put_behind_more : (xs ys : List Row) (puts : List ℕ → Option (List ℕ)) →
 put_behind_more [] ys puts = refl
 put_behind_more (x ∷ xs) ys puts = put_behind_more xs ys (with_put x puts)
 
+pub put_all_more : (come : List Owner) (owner : Owner) → put_behind (rows_of_all (come ++ owner ∷ [])) no_put ≡ put_behind (rows_of owner) (put_behind (rows_of_all come) no_put)
+put_all_more come owner =
+    ap (λ (rows : List Row). put_behind rows no_put) (flat_map-append rows_of come (owner ∷ []) ∙ ap (λ (rows : List Row). rows_of_all come ++ rows) (append-nil (rows_of owner)))
+    ∙ put_behind_more (rows_of_all come) (rows_of owner) no_put
+
 pub comes : (old new : List Operation) (gone come : List Owner) (owner : Owner) → Exchanges old gone come None → Adds old new (rows_of owner) → Exchanges new gone (come ++ owner ∷ []) None
 comes old new gone come owner means adds = record {
   is = λ key before.
       (adds (are_erased gone) (put_behind (rows_of_all come) no_put) (record { is = means.is })).is key before
-      ∙ ap (λ (puts : List ℕ → Option (List ℕ)). option_or (puts key) (if are_erased gone key then None else before)) (sym (all ∙ put_behind_more (rows_of_all come) (rows_of owner) no_put));
+      ∙ ap (λ (puts : List ℕ → Option (List ℕ)). option_or (puts key) (if are_erased gone key then None else before)) (sym (put_all_more come owner));
 }
-  where
-    all : put_behind (rows_of_all (come ++ owner ∷ [])) no_put ≡ put_behind (rows_of_all come ++ rows_of owner) no_put
-    all = ap (λ (rows : List Row). put_behind rows no_put) (flat_map-append rows_of come (owner ∷ []) ∙ ap (λ (rows : List Row). rows_of_all come ++ rows) (append-nil (rows_of owner)))
 
 pub counts : (old new : List Operation) (gone come : List Owner) (next : ℕ) → Exchanges old gone come None → Adds old new (counter_row next ∷ []) → Exchanges new gone come (Some next)
 counts old new gone come next means adds = record { is = (adds (are_erased gone) (put_behind (rows_of_all come) no_put) (record { is = means.is })).is }

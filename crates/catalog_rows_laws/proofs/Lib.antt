@@ -16,3 +16,4 @@ pub mod Stand
 pub mod Maps
 pub mod Behind
 pub mod Owners
+pub mod Beside

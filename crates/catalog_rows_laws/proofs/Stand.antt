@@ -16,6 +16,7 @@ use Rattle.catalog_rows.specs.Lists.{rows_of_all}
 use Rattle.catalog_rows.specs.Stands.{Standing, Numbered, placed_in, Has, IsOf, IsApart, is_others, counter_key, Counts, IsBelow, StandsWith, Stands}
 use Rattle.catalog_rows.specs.Changes.{IsOne, put_behind, no_put, Exchanges, next_after, MakesOf}
 use Rattle.catalog_rows_laws.specs.Laws.{AreHad, ListsOwners, no_numbered}
+use Rattle.catalog_rows_laws.specs.Beside.{ExchangesBeside}
 use Rattle.catalog_rows_laws.specs.Changing.{ComeNumbered, LeadsTo}
 use Rattle.catalog_rows_laws.proofs.Alone.{none_some}
 use Rattle.catalog_rows_laws.proofs.Erased.{stands_follow}
@@ -31,7 +32,7 @@ same_sight rows cat other key s t = ap (λ (c : Catalog). sight_of c key) (deter
 -- ## Changes
 
 pub change_stands : (operations : List Operation) (rows after : Rows) (n next : Numbered) (before : ℕ) (cat now : Catalog) (gone come : List Owner) (counter : Option ℕ)
-    → StandsWith rows n before cat → LeadsTo n next now gone come → ComeNumbered before (next_after counter before) gone come → Exchanges operations gone come counter → MakesOf operations rows after
+    → StandsWith rows n before cat → LeadsTo n next now gone come → ComeNumbered before (next_after counter before) gone come → ExchangesBeside operations gone come counter → MakesOf operations rows after
     → StandsWith after next (next_after counter before) now
 change_stands operations rows after n next before cat now gone come counter stands l c means makes =
     stands_follow operations rows after n next before cat now gone come counter stands l.follows l.of l.valid (stays_apart n next before (next_after counter before) now gone come l stands.apart stands.below c)

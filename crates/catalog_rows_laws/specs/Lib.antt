@@ -1,3 +1,4 @@
 pub mod Laws
 pub mod Changing
 pub mod Behind
+pub mod Beside

@@ -11,6 +11,7 @@ ghost use Rattle.catalog_rows.specs.Stands.{Counts, IsApart, IsBelow, IsOf, Numb
 ghost use Rattle.catalog_rows.specs.Changes.{Exchanges, Follows, IsOne, MakesOf, is_erased, next_after, no_put, put_behind};
 ghost use Rattle.catalog_rows.specs.Adding.{Adds, Takes};
 ghost use Rattle.catalog_rows_laws.specs.Behind.{CanExchange, catalog_behind, numbered_behind};
+ghost use Rattle.catalog_rows_laws.specs.Beside.{ExchangesBeside, RecordsAlone};
 ghost use Rattle.catalog_rows_laws.specs.Changing.{ComeNumbered, LeadsTo};
 ghost use Rattle.catalog_rows_laws.specs.Laws.{AreHad, ListsOwners, no_numbered, owners_in};
 
@@ -31,10 +32,10 @@ pub fn rows_determine_catalogs()
 /// they are drawn. `keeps`: or the numbers behind are apart and below the next one for another reason. It does nothing when it runs.
 pub fn rows_follow_changes()
     ensures stands { (operations : List Operation) (rows after : Rows) (n next : Numbered) (before : ℕ) (cat now : Catalog) (gone come : List Owner) (counter : Option ℕ)
-        → StandsWith rows n before cat → LeadsTo n next now gone come → ComeNumbered before (next_after counter before) gone come → Exchanges operations gone come counter → MakesOf operations rows after
+        → StandsWith rows n before cat → LeadsTo n next now gone come → ComeNumbered before (next_after counter before) gone come → ExchangesBeside operations gone come counter → MakesOf operations rows after
         → StandsWith after next (next_after counter before) now }
     ensures keeps { (operations : List Operation) (rows after : Rows) (n next : Numbered) (before : ℕ) (cat now : Catalog) (gone come : List Owner) (counter : Option ℕ)
-        → StandsWith rows n before cat → Follows n next gone come → IsOf next now → IsValid now → IsApart next → IsBelow next (next_after counter before) → Exchanges operations gone come counter → MakesOf operations rows after
+        → StandsWith rows n before cat → Follows n next gone come → IsOf next now → IsValid now → IsApart next → IsBelow next (next_after counter before) → ExchangesBeside operations gone come counter → MakesOf operations rows after
         → StandsWith after next (next_after counter before) now }
 {}
 
@@ -46,6 +47,18 @@ pub fn batches_grow()
     ensures goes { (old new : List Operation) (gone come : List Owner) (counter : Option ℕ) (owner : Owner) → Exchanges old gone come counter → Takes old new (is_erased owner) → Exchanges new (owner ∷ gone) come counter }
     ensures comes { (old new : List Operation) (gone come : List Owner) (owner : Owner) → Exchanges old gone come None → Adds old new (rows_of owner) → Exchanges new gone (come ++ owner ∷ []) None }
     ensures counts { (old new : List Operation) (gone come : List Owner) (next : ℕ) → Exchanges old gone come None → Adds old new (counter_row next ∷ []) → Exchanges new gone come (Some next) }
+{}
+
+/// The same of batches that do more beside with records of the log, in whatever order calls come. `exact`: what exchanges without
+/// any more is one. `begins`, `goes`, `comes`, `counts`: as before. `records`: what is done to records alone changes nothing else.
+/// It does nothing when it runs.
+pub fn batches_grow_beside()
+    ensures exact { (operations : List Operation) (gone come : List Owner) (counter : Option ℕ) → Exchanges operations gone come counter → ExchangesBeside operations gone come counter }
+    ensures begins { ExchangesBeside [] [] [] None }
+    ensures goes { (old new : List Operation) (gone come : List Owner) (counter : Option ℕ) (owner : Owner) → ExchangesBeside old gone come counter → Takes old new (is_erased owner) → ExchangesBeside new (owner ∷ gone) come counter }
+    ensures comes { (old new : List Operation) (gone come : List Owner) (counter : Option ℕ) (owner : Owner) → ExchangesBeside old gone come counter → Adds old new (rows_of owner) → ExchangesBeside new gone (come ++ owner ∷ []) counter }
+    ensures counts { (old new : List Operation) (gone come : List Owner) (counter : Option ℕ) (next : ℕ) → ExchangesBeside old gone come counter → Adds old new (counter_row next ∷ []) → ExchangesBeside new gone come (Some next) }
+    ensures records { (old new : List Operation) (gone come : List Owner) (counter : Option ℕ) → ExchangesBeside old gone come counter → RecordsAlone old new → ExchangesBeside new gone come counter }
 {}
 
 /// Rows that stand for a catalog are those that its schemas and objects write, beside the counter and the records of the log.
