@@ -1,5 +1,5 @@
 -- Behind a change that can be made, those that went and those that came lead from the one catalog to the other.
-use Rattle.std.proofs.Common.{◌≡◌, ◌⊎◌, inl, inr, ℕ, Bool, true, List, [], ◌∷◌, Option, Some, None, refl, sym, ap, subst, ◌∙◌}
+use Rattle.std.proofs.Common.{◌≡◌, ◌⊎◌, inl, inr, ℕ, List, Option, Some, None, refl, sym, ap, subst, ◌∙◌}
 use Rattle.std.specs.Option.{option_map, is_some}
 use Rattle.std.specs.FinMap as finite_map
 use Rattle.std.specs.Cmp.Lexicographic.{nat_list_cmp_total}
@@ -9,9 +9,9 @@ use Rattle.dd_catalog.specs.Valid.{IsValid}
 use Rattle.dd_catalog.proofs.ObjectNames.{object_total, object_alone, name_alone}
 use Rattle.catalog_rows.specs.Owners.{Owner, SchemaIs, ObjectIs}
 use Rattle.catalog_rows.specs.Stands.{Standing, Numbered, placed_in, Has, IsOf}
-use Rattle.catalog_rows.specs.Changes.{IsOne, Follows}
+use Rattle.catalog_rows.specs.Changes.{IsOne}
 use Rattle.catalog_rows_laws.specs.Changing.{LeadsTo}
-use Rattle.catalog_rows_laws.specs.Behind.{put_all, drop_all, schema_in, object_in, name_in, thing_in, numbered_behind, catalog_behind, SharesName, CanExchange}
+use Rattle.catalog_rows_laws.specs.Behind.{drop_all, schema_in, object_in, name_in, thing_in, numbered_behind, catalog_behind, CanExchange}
 use Rattle.catalog_rows_laws.proofs.Keys.{some_is}
 use Rattle.catalog_rows_laws.proofs.Alone.{none_some}
 use Rattle.catalog_rows_laws.proofs.Owned.{standing, same_owner, owner_of}

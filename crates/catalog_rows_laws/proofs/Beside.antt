@@ -13,7 +13,7 @@ use Rattle.catalog_rows.specs.Lists.{rows_of, rows_of_all}
 use Rattle.catalog_rows.specs.Stands.{counter_key, counter_row, next_bytes}
 use Rattle.catalog_rows.specs.Changes.{no_put, with_put, put_behind, with_counter, is_erased, are_erased, Exchanges}
 use Rattle.catalog_rows.specs.Adding.{Adds, Takes}
-use Rattle.catalog_rows_laws.specs.Beside.{is_record, ExchangesBeside, RecordsAlone}
+use Rattle.catalog_rows_laws.specs.Beside.{ExchangesBeside, RecordsAlone}
 use Rattle.catalog_rows_laws.proofs.Growing.{put_all_more}
 use Rattle.catalog_rows_laws.proofs.Erased.{no_put_there}
 
@@ -77,7 +77,7 @@ counter_over None owner puts key = sym (put_over (rows_of owner) puts key)
 counter_over (Some next) owner puts key = by (is_key key counter_key) refl
   where
     none : (key : List ℕ) → is_key key counter_key ≡ true → put_behind (rows_of owner) no_put key ≡ None
-    none key e = ap (put_behind (rows_of owner) no_put) (is_key_same key counter_key e) ∙ sym (ap (λ (rows : List Row). put_behind rows no_put counter_key) (append-nil (rows_of owner))) ∙ no_put_there (owner ∷ [])
+    none key e = ap (put_behind (rows_of owner) no_put) (is_key_same key counter_key e) ∙ sym (ap (λ (rows : List Row). put_behind rows no_put counter_key) (append-nil (rows_of owner))) ∙ no_put_there (owner ∷ []) counter_key refl
 
     by : (b : Bool) → is_key key counter_key ≡ b → option_or (put_behind (rows_of owner) no_put key) (cond b (Some (next_bytes next)) (puts key)) ≡ cond b (Some (next_bytes next)) (put_behind (rows_of owner) puts key)
     by true e = ap (λ o. option_or o (Some (next_bytes next))) (none key e)

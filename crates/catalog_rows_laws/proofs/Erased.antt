@@ -22,7 +22,7 @@ use Rattle.row_fields.proofs.Again.{same_fields}
 use Rattle.catalog_rows.specs.Owners.{Owner, SchemaIs, ObjectIs, Row, key_bytes, named_row, Inside, Column, Index, IndexColumn, ForeignKey, KeyColumn, Query, tag_of, numbers_of, inside_row, value_at, Place, Named, Under, Child, Constraint, row_at, HasRow}
 use Rattle.catalog_rows.specs.Lists.{links_of, rows_of, rows_of_all}
 use Rattle.catalog_rows.specs.Stands.{Numbered, Has, IsOf, FitsOwner, IsApart, is_others, counter_key, next_bytes, Counts, IsBelow, StandsWith}
-use Rattle.catalog_rows.specs.Changes.{no_put, put_behind, is_among, is_of, inside_tags, is_inside, is_erased, are_erased, next_after, IsOne, Follows, MakesOf}
+use Rattle.catalog_rows.specs.Changes.{no_put, put_behind, with_counter, is_among, is_of, inside_tags, is_inside, is_erased, are_erased, Exchanges, next_after, IsOne, Follows, MakesOf}
 use Rattle.catalog_rows_laws.specs.Beside.{is_record, ExchangesBeside}
 use Rattle.catalog_rows_laws.proofs.Lists.{Among, among_first, among_second, among_either, some_of, Stood, stood, named_stood, link_stood, child_linked, constraint_linked, listed, PutFrom, put_is, row_put, among_key, key_among}
 use Rattle.catalog_rows_laws.proofs.Keys.{some_is, head_of, object_tag, schema_only}
@@ -307,29 +307,33 @@ without_counter operations gone come None means = λ q own old. means.is q (no_r
 without_counter operations gone come (Some next) means = λ q own old.
     means.is q (no_record q own) old ∙ ap (λ b. option_or (cond b (Some (next_bytes next)) (put_behind (rows_of_all come) no_put q)) (cond (are_erased gone q) None old)) (counter_no_key q own)
 
-pub no_put_there : (come : List Owner) → put_behind (rows_of_all come) no_put counter_key ≡ None
-no_put_there come = at (put_behind (rows_of_all come) no_put counter_key) refl
+-- owners put nothing under the key of a record or of the counter
+pub no_put_there : (come : List Owner) (q : List ℕ) → is_others q ≡ true → put_behind (rows_of_all come) no_put q ≡ None
+no_put_there come q others = at (put_behind (rows_of_all come) no_put q) refl
   where
-    by : (value : List ℕ) → PutFrom (rows_of_all come) counter_key value ⊎ (no_put counter_key ≡ Some value) → ⊥
+    by : (value : List ℕ) → PutFrom (rows_of_all come) q value ⊎ (no_put q ≡ Some value) → ⊥
     by value (inl p) =
         let one = row_of_one come p.row p.among in
         let s = stood one.0 p.row one.2 in
-        let own : is_others counter_key ≡ false = ours one.0 counter_key value (record { place = s.place; at = p.row; is = s.is; key_is = p.key; value_is = p.is }) in
+        let own : is_others q ≡ false = ours one.0 q value (record { place = s.place; at = p.row; is = s.is; key_is = p.key; value_is = p.is }) in
+        let same : ◌≡◌ {A = Bool} true false = sym others ∙ own in
         cc
     by value (inr e) = cc
 
-    at : (o : Option (List ℕ)) → put_behind (rows_of_all come) no_put counter_key ≡ o → o ≡ None
+    at : (o : Option (List ℕ)) → put_behind (rows_of_all come) no_put q ≡ o → o ≡ None
     at None e = refl
-    at (Some value) e = absurd (by value (put_is (rows_of_all come) no_put counter_key value e))
+    at (Some value) e = absurd (by value (put_is (rows_of_all come) no_put q value e))
 
-not_gone : (gone : List Owner) → are_erased gone counter_key ≡ false
-not_gone gone = at (are_erased gone counter_key) refl
+-- nor take it away
+not_gone : (gone : List Owner) (q : List ℕ) → is_others q ≡ true → are_erased gone q ≡ false
+not_gone gone q others = at (are_erased gone q) refl
   where
-    at : (b : Bool) → are_erased gone counter_key ≡ b → b ≡ false
+    at : (b : Bool) → are_erased gone q ≡ b → b ≡ false
     at false e = refl
     at true e =
-        let one = one_gone gone counter_key e in
-        let own : is_others counter_key ≡ false = erased_ours one.0 counter_key one.2 in
+        let one = one_gone gone q e in
+        let own : is_others q ≡ false = erased_ours one.0 q one.2 in
+        let same : ◌≡◌ {A = Bool} true false = sym others ∙ own in
         absurd cc
 
 counted : (operations : List Operation) (rows after : Rows) (before : ℕ) (gone come : List Owner) (counter : Option ℕ) → MakesOf operations rows after → ExchangesBeside operations gone come counter
@@ -343,9 +347,38 @@ counted operations rows after before gone come (Some new) makes means c =
 counted operations rows after before gone come None makes means c =
     let is : finite_map.get after counter_key ≡ finite_map.get rows counter_key =
     makes.is counter_key ∙ means.is counter_key refl (finite_map.get rows counter_key)
-    ∙ ap (λ p. option_or p (cond (are_erased gone counter_key) None (finite_map.get rows counter_key))) (no_put_there come)
-    ∙ ap (λ b. cond b None (finite_map.get rows counter_key)) (not_gone gone) in
+    ∙ ap (λ p. option_or p (cond (are_erased gone counter_key) None (finite_map.get rows counter_key))) (no_put_there come counter_key refl)
+    ∙ ap (λ b. cond b None (finite_map.get rows counter_key)) (not_gone gone counter_key refl) in
     subst (Counts before) (sym is) c
+
+-- ## Records of the log
+
+record_other : (q : List ℕ) → is_record q ≡ true → is_others q ≡ true
+record_other [] e = absurd cc
+record_other (tag ∷ rest) e = left_or (nat_eq tag 9) (nat_eq tag 10 && nat_eq (length rest) 0) e
+
+record_no_counter : (q : List ℕ) → is_record q ≡ true → is_key q counter_key ≡ false
+record_no_counter q e = at (is_key q counter_key) refl
+  where
+    at : (b : Bool) → is_key q counter_key ≡ b → b ≡ false
+    at false f = refl
+    at true f =
+        let counter : is_record counter_key ≡ true = ap is_record (sym (is_key_same q counter_key f)) ∙ e in
+        absurd cc
+
+without_next : (counter : Option ℕ) (puts : List ℕ → Option (List ℕ)) (q : List ℕ) → is_record q ≡ true → with_counter counter puts q ≡ puts q
+without_next None puts q e = refl
+without_next (Some next) puts q e = ap (λ b. cond b (Some (next_bytes next)) (puts q)) (record_no_counter q e)
+
+-- an exchange leaves the records as they are
+pub records_stay : (operations : List Operation) (rows after : Rows) (gone come : List Owner) (counter : Option ℕ) → Exchanges operations gone come counter → MakesOf operations rows after → (q : List ℕ) → is_record q ≡ true
+    → finite_map.get after q ≡ finite_map.get rows q
+records_stay operations rows after gone come counter means makes q e =
+    makes.is q ∙ means.is q (finite_map.get rows q)
+    ∙ (λ i. option_or (put i) (cond (not_gone gone q (record_other q e) i) None (finite_map.get rows q)))
+  where
+    put : with_counter counter (put_behind (rows_of_all come) no_put) q ≡ None
+    put = without_next counter (put_behind (rows_of_all come) no_put) q e ∙ no_put_there come q (record_other q e)
 
 -- ## The law of changes
 

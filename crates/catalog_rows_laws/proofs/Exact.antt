@@ -11,6 +11,7 @@ use Rattle.catalog_rows.specs.Owners.{Owner, HasRow}
 use Rattle.catalog_rows.specs.Lists.{rows_of_all}
 use Rattle.catalog_rows.specs.Stands.{Numbered, Has, RowsAre, is_others}
 use Rattle.catalog_rows.specs.Changes.{IsOne, put_behind, no_put, are_erased, Exchanges, MakesOf}
+use Rattle.catalog_rows_laws.specs.Beside.{is_record, ExchangesBeside}
 use Rattle.catalog_rows_laws.specs.Laws.{AreHad, ListsOwners}
 use Rattle.catalog_rows_laws.proofs.Changed.{OneValue, ours}
 use Rattle.catalog_rows_laws.proofs.Lists.{PutFrom, put_is, row_put, stood, listed}
@@ -82,3 +83,9 @@ same_again operations rows after n cat gone owners w are had among means makes =
     let a : Again rows n cat gone owners = record { with_ids = w; are = are; had = had; among = among } in
     finite_map.same_map nat_list_cmp_total key_alone after rows
     (λ q. makes.is q ∙ means.is q (finite_map.get rows q) ∙ same_at rows n cat gone owners a q (put_behind (rows_of_all owners) no_put q) (are_erased gone q) (finite_map.get rows q) refl refl refl)
+
+pub same_beside : (operations : List Operation) (rows after : Rows) (n : Numbered) (cat : Catalog) (gone owners : List Owner) → IsWith n cat → RowsAre rows n → AreHad n owners → ((owner : Owner) → IsOne owner gone → IsOne owner owners)
+    → ExchangesBeside operations gone owners None → MakesOf operations rows after → (q : List ℕ) → is_record q ≡ false → finite_map.get after q ≡ finite_map.get rows q
+same_beside operations rows after n cat gone owners w are had among means makes q own =
+    let a : Again rows n cat gone owners = record { with_ids = w; are = are; had = had; among = among } in
+    makes.is q ∙ means.is q own (finite_map.get rows q) ∙ same_at rows n cat gone owners a q (put_behind (rows_of_all owners) no_put q) (are_erased gone q) (finite_map.get rows q) refl refl refl

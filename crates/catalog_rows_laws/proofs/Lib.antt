@@ -17,3 +17,4 @@ pub mod Maps
 pub mod Behind
 pub mod Owners
 pub mod Beside
+pub mod First

@@ -30,7 +30,7 @@ standing id placed = record { id = id; placed = placed }
 pub stands_in : (n : Numbered) (cat : Catalog) → IsOf n cat → (name : ObjName) (schema id : ℕ) (placed : Placed) → Has n (ObjectIs name schema id placed) → StandsIn cat name placed
 stands_in n cat of name schema id placed has = record { is = of.objects name ∙ ap (option_map placed_in) has.1 }
 
-some_there : {X : Type 0} (o : Option X) → is_some o ≡ true → (x : X) × (o ≡ Some x)
+pub some_there : {X : Type 0} (o : Option X) → is_some o ≡ true → (x : X) × (o ≡ Some x)
 some_there None e = absurd cc
 some_there (Some x) e = (x, refl)
 

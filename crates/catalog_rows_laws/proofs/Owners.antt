@@ -65,7 +65,7 @@ object_here name schema id placed o st e f = subst (λ (p : Option ℕ). IsOne (
 object_listed : (n : Numbered) (name : ObjName) (schema id : ℕ) (placed : Placed) → Has n (ObjectIs name schema id placed) → IsOne (ObjectIs name schema id placed) (flat_map (objects_of n) (finite_map.keys n.objects))
 object_listed n name schema id placed has = flat_has (objects_of n) (eq_by_cmp object_cmp name) (finite_map.keys n.objects) (ObjectIs name schema id placed) (sym (finite_map.contains_key-keys n.objects name) ∙ ap is_some has.1)
     (λ k t. subst (λ (q : ObjName). IsOne (ObjectIs name schema id placed) (objects_of n q)) (object_alone name k (equal (object_cmp name k) t))
-        (object_here name schema id placed (finite_map.get n.schemas name.schema) (finite_map.get n.objects name) has.0 has.1))
+    (object_here name schema id placed (finite_map.get n.schemas name.schema) (finite_map.get n.objects name) has.0 has.1))
 
 schema_had : (n : Numbered) (name : List ℕ) (o : Option ℕ) (owner : Owner) → finite_map.get n.schemas name ≡ o → IsOne owner (schema_at name o) → Has n owner
 schema_had n name None owner e h = absurd h

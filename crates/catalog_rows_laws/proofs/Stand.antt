@@ -16,12 +16,12 @@ use Rattle.catalog_rows.specs.Lists.{rows_of_all}
 use Rattle.catalog_rows.specs.Stands.{Standing, Numbered, placed_in, Has, IsOf, IsApart, is_others, counter_key, Counts, IsBelow, StandsWith, Stands}
 use Rattle.catalog_rows.specs.Changes.{IsOne, put_behind, no_put, Exchanges, next_after, MakesOf}
 use Rattle.catalog_rows_laws.specs.Laws.{AreHad, ListsOwners, no_numbered}
-use Rattle.catalog_rows_laws.specs.Beside.{ExchangesBeside}
+use Rattle.catalog_rows_laws.specs.Beside.{is_record, ExchangesBeside}
 use Rattle.catalog_rows_laws.specs.Changing.{ComeNumbered, LeadsTo}
 use Rattle.catalog_rows_laws.proofs.Alone.{none_some}
 use Rattle.catalog_rows_laws.proofs.Erased.{stands_follow}
 use Rattle.catalog_rows_laws.proofs.Numbers.{stays_below, stays_apart}
-use Rattle.catalog_rows_laws.proofs.Exact.{are_where_written, written_where_are, same_again}
+use Rattle.catalog_rows_laws.proofs.Exact.{are_where_written, written_where_are, same_again, same_beside}
 use Rattle.catalog_rows_laws.proofs.Determined.{with_ids, determined}
 
 -- ## One catalog
@@ -60,6 +60,11 @@ pub again_same : (operations : List Operation) (rows after : Rows) (n : Numbered
 again_same operations rows after n next cat gone owners s had among means makes =
     same_again operations rows after n cat gone owners (with_ids rows n next cat s) s.are had among means makes
 
+pub again_beside : (operations : List Operation) (rows after : Rows) (n : Numbered) (next : ℕ) (cat : Catalog) (gone owners : List Owner) → StandsWith rows n next cat → AreHad n owners
+    → ((owner : Owner) → IsOne owner gone → IsOne owner owners) → ExchangesBeside operations gone owners None → MakesOf operations rows after → (q : List ℕ) → is_record q ≡ false → finite_map.get after q ≡ finite_map.get rows q
+again_beside operations rows after n next cat gone owners s had among means makes =
+    same_beside operations rows after n cat gone owners (with_ids rows n next cat s) s.are had among means makes
+
 -- ## Nothing
 
 no_got : {K X : Type 0} (R : K → K → Ordering) (q : K) (x : X) → finite_map.get (finite_map.empty {X = X} {R = R}) q ≡ Some x → ⊥
@@ -68,10 +73,10 @@ no_got R q x e = none_some x (sym (finite_map.get-empty R q) ∙ e)
 no_schema : (name : List ℕ) → finite_map.contains_key empty_catalog.schemas name ≡ true → ⊥
 no_schema name e = let same : ◌≡◌ {A = Bool} false true = sym (ap is_some (finite_map.get-empty {X = Unit {0}} name_cmp name)) ∙ e in cc
 
-no_object : (name : ObjName) (placed : Placed) → StandsIn empty_catalog name placed → ⊥
+pub no_object : (name : ObjName) (placed : Placed) → StandsIn empty_catalog name placed → ⊥
 no_object name placed has = no_got object_cmp name placed has.is
 
-empty_valid : IsValid empty_catalog
+pub empty_valid : IsValid empty_catalog
 empty_valid = record {
   own_schemas = λ name there. absurd (no_schema name there);
   schemas_named = λ name there. absurd (no_schema name there);
@@ -85,7 +90,7 @@ empty_valid = record {
   parents_fit = λ name space parts has. absurd (no_object name (Table space parts) has);
 }
 
-no_owner : (owner : Owner) → Has no_numbered owner → ⊥
+pub no_owner : (owner : Owner) → Has no_numbered owner → ⊥
 no_owner (SchemaIs name id) has = no_got name_cmp name id has
 no_owner (ObjectIs name schema id placed) has = no_got object_cmp name (record { id = id; placed = placed }) has.1
 
