@@ -1,5 +1,5 @@
--- What an erasure takes away: all rows of its owner, and of no other. So a batch of some that go and some that come leads from
--- rows that stand for a catalog to rows that stand for the one that follows.
+-- What an erasure takes away: all rows of its owner, and of no other. So a batch of some that go and some that come
+-- leads from rows that stand for a catalog to rows that stand for the one that follows.
 use Rattle.std.proofs.Common.{◌≡◌, ◌⊎◌, inl, inr, ℕ, ◌<◌, ◌^◌, Bool, true, false, cond, List, [], ◌∷◌, ◌++◌, Option, Some, None, refl, sym, ap, subst, ◌∙◌, arith}
 use Rattle.std.specs.Prelude.{nat_eq, ◌||◌, ◌&&◌, length}
 use Rattle.std.specs.List.{list_any, AllByRecursion, starts_with}

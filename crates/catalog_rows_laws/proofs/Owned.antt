@@ -55,8 +55,7 @@ same_owner n a b s t id other placed with p q e =
 same_schema : (n : Numbered) → IsApart n → (a b : ObjName) (s t id other : ℕ) (placed with : Placed) → Has n (ObjectIs a s id placed) → Has n (ObjectIs b t other with) → s ≡ t → a.schema ≡ b.schema
 same_schema n apart a b s t id other placed with p q e = apart.schemas a.schema b.schema s p.0 (q.0 ∙ ap Some (sym e))
 
--- the keys of two rows, where the rows are known
-
+-- where two rows are known, and have one key, this has the same fields
 fields_from : (x y at other : Row) → x ≡ at → y ≡ other → at.key ≡ other.key → x.key.fields ≡ y.key.fields
 fields_from x y at other p q e = ap (λ (r : Row). r.key.fields) p ∙ ap (λ (k : RowKey). k.fields) e ∙ sym (ap (λ (r : Row). r.key.fields) q)
 

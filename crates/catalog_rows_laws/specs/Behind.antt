@@ -64,8 +64,8 @@ SharesName (SchemaIs a id) (ObjectIs b schema other placed) = ⊥
 SharesName (ObjectIs a schema id placed) (SchemaIs b other) = ⊥
 SharesName (ObjectIs a schema id placed) (ObjectIs b beside other with) = a ≡ b
 
--- those that go are there; no two that come have one name, and each name is free or becomes so; with a schema go its objects; and
--- what comes has the id that its schema has then
+-- those that go are there; no two that come have one name, and each name is free or becomes so; with a schema go its
+-- objects; and what comes has the id that its schema has then
 pub record CanExchange (n : Numbered) (gone come : List Owner) : Type 0 where
   pub had : AreHad n gone
   pub once : (a b : Owner) → IsOne a come → IsOne b come → SharesName a b → a ≡ b

@@ -12,8 +12,8 @@ abbrev pub is_record : List ℕ → Bool
 is_record [] = false
 is_record (tag ∷ rest) = nat_eq tag 9
 
--- under each key but those of records, the operations take away the rows of the one list of owners, and put those of the other, and
--- the counter if there is one
+-- under each key but those of records, the operations take away the rows of the one list of owners, and put those of
+-- the other, and the counter if there is one
 pub record ExchangesBeside (operations : List Operation) (gone come : List Owner) (counter : Option ℕ) : Type 0 where
   pub is : (key : List ℕ) → is_record key ≡ false → (old : Option (List ℕ)) → made_of operations key old ≡ option_or (with_counter counter (put_behind (rows_of_all come) no_put) key) (if are_erased gone key then None else old)
 

@@ -27,8 +27,9 @@ IsDrawn next (ObjectIs name schema id placed) = next ≤ id
 abbrev pub IsNumberedFrom : ℕ → List Owner → Owner → Type 0
 IsNumberedFrom next gone owner = IsDrawn next owner ⊎ ((old : Owner) × IsOne old gone × SharesId old owner)
 
--- where the next number rises from before to behind, those that come have names that are names and numbers that have room; each
--- has a drawn id, or the id of one that goes; no two have one id; and all their numbers are below the next one behind
+-- where the next number rises from before to behind, those that come have names that are names and numbers that have
+-- room; each has a drawn id, or the id of one that goes; no two have one id; and all their numbers are below the next
+-- one behind
 pub record ComeNumbered (before behind : ℕ) (gone come : List Owner) : Type 0 where
   pub fits : (owner : Owner) → IsOne owner come → FitsOwner owner
   pub from : (owner : Owner) → IsOne owner come → IsNumberedFrom before gone owner
