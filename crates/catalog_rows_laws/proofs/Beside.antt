@@ -1,5 +1,5 @@
 -- A batch grows by what calls add to it, in whatever order, with or without records of the log.
-use Rattle.std.proofs.Common.{◌≡◌, ℕ, Bool, true, false, cond, List, [], ◌∷◌, ◌++◌, Option, Some, None, refl, sym, ap, ◌∙◌}
+use Rattle.std.proofs.Common.{◌≡◌, ℕ, Bool, true, false, cond, List, [], ◌∷◌, ◌++◌, Option, Some, None, refl, sym, ap, subst, ◌∙◌}
 use Rattle.std.specs.Prelude.{◌||◌}
 use Rattle.std.specs.Option.{option_or}
 use Rattle.std.proofs.lemmas.List.{append-nil}
@@ -12,8 +12,9 @@ use Rattle.catalog_rows.specs.Owners.{Owner, Row, key_bytes}
 use Rattle.catalog_rows.specs.Lists.{rows_of, rows_of_all}
 use Rattle.catalog_rows.specs.Stands.{counter_key, counter_row, next_bytes}
 use Rattle.catalog_rows.specs.Changes.{no_put, with_put, put_behind, with_counter, is_erased, are_erased, Exchanges}
+use Rattle.catalog_rows.specs.Objects.{rows_if, is_erased_if}
 use Rattle.catalog_rows.specs.Adding.{Adds, Takes}
-use Rattle.catalog_rows_laws.specs.Beside.{ExchangesBeside, RecordsAlone}
+use Rattle.catalog_rows_laws.specs.Beside.{ExchangesBeside, RecordsAlone, one_if}
 use Rattle.catalog_rows_laws.proofs.Growing.{put_all_more}
 use Rattle.catalog_rows_laws.proofs.Erased.{no_put_there}
 
@@ -59,7 +60,7 @@ exact operations gone come counter means = record { is = λ key own old. means.i
 pub begins_beside : ExchangesBeside [] [] [] None
 begins_beside = record { is = λ key own old. refl }
 
-pub goes_beside : (old new : List Operation) (gone come : List Owner) (counter : Option ℕ) (owner : Owner) → ExchangesBeside old gone come counter → Takes old new (is_erased owner) → ExchangesBeside new (owner ∷ gone) come counter
+goes_beside : (old new : List Operation) (gone come : List Owner) (counter : Option ℕ) (owner : Owner) → ExchangesBeside old gone come counter → Takes old new (is_erased owner) → ExchangesBeside new (owner ∷ gone) come counter
 goes_beside old new gone come counter owner means takes = record {
   is = λ key own before.
       taken old new (is_erased owner) takes key before ∙ means.is key own (cond (is_erased owner key) None before)
@@ -83,13 +84,22 @@ counter_over (Some next) owner puts key = by (is_key key counter_key) refl
     by true e = ap (λ o. option_or o (Some (next_bytes next))) (none key e)
     by false e = sym (put_over (rows_of owner) puts key)
 
-pub comes_beside : (old new : List Operation) (gone come : List Owner) (counter : Option ℕ) (owner : Owner) → ExchangesBeside old gone come counter → Adds old new (rows_of owner) → ExchangesBeside new gone (come ++ owner ∷ []) counter
+comes_beside : (old new : List Operation) (gone come : List Owner) (counter : Option ℕ) (owner : Owner) → ExchangesBeside old gone come counter → Adds old new (rows_of owner) → ExchangesBeside new gone (come ++ owner ∷ []) counter
 comes_beside old new gone come counter owner means adds = record {
   is = λ key own before.
       added old new (rows_of owner) adds key before ∙ ap (option_or (put_behind (rows_of owner) no_put key)) (means.is key own before)
       ∙ sym (either_put (put_behind (rows_of owner) no_put key) (with_counter counter (put_behind (rows_of_all come) no_put) key) (cond (are_erased gone key) None before))
       ∙ ap (λ o. option_or o (cond (are_erased gone key) None before)) (counter_over counter owner (put_behind (rows_of_all come) no_put) key ∙ ap (λ (puts : List ℕ → Option (List ℕ)). with_counter counter puts key) (sym (put_all_more come owner)));
 }
+
+pub goes_if : (old new : List Operation) (gone come : List Owner) (counter : Option ℕ) (owner : Option Owner) → ExchangesBeside old gone come counter → Takes old new (is_erased_if owner) → ExchangesBeside new (one_if owner ++ gone) come counter
+goes_if old new gone come counter None means takes = record { is = λ key own before. taken old new (λ key. false) takes key before ∙ means.is key own before }
+goes_if old new gone come counter (Some owner) means takes = goes_beside old new gone come counter owner means takes
+
+pub comes_if : (old new : List Operation) (gone come : List Owner) (counter : Option ℕ) (owner : Option Owner) → ExchangesBeside old gone come counter → Adds old new (rows_if owner) → ExchangesBeside new gone (come ++ one_if owner) counter
+comes_if old new gone come counter None means adds =
+    subst (λ (owners : List Owner). ExchangesBeside new gone owners counter) (sym (append-nil come)) (record { is = λ key own before. added old new [] adds key before ∙ means.is key own before })
+comes_if old new gone come counter (Some owner) means adds = comes_beside old new gone come counter owner means adds
 
 pub counts_beside : (old new : List Operation) (gone come : List Owner) (counter : Option ℕ) (next : ℕ) → ExchangesBeside old gone come counter → Adds old new (counter_row next ∷ []) → ExchangesBeside new gone come (Some next)
 counts_beside old new gone come counter next means adds = record {

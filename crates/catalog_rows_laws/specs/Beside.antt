@@ -1,5 +1,5 @@
 -- Batches that exchange rows of a catalog, and may do more beside with the records of the log.
-use Rattle.std.specs.Prelude.{◌≡◌, ℕ, Bool, false, nat_eq, List, [], ◌∷◌, Option, None, if◌then◌else◌}
+use Rattle.std.specs.Prelude.{◌≡◌, ℕ, Bool, false, nat_eq, List, [], ◌∷◌, Option, Some, None, if◌then◌else◌}
 use Rattle.std.specs.Option.{option_or}
 use Rattle.row_batch.specs.declared.operation.Operation.{Operation}
 use Rattle.row_batch.specs.Meaning.{made_of}
@@ -20,3 +20,8 @@ pub record ExchangesBeside (operations : List Operation) (gone come : List Owner
 -- the new operations make of each key but those of records what the old ones make of it
 abbrev pub RecordsAlone : List Operation → List Operation → Type 0
 RecordsAlone old new = (key : List ℕ) → is_record key ≡ false → (before : Option (List ℕ)) → made_of new key before ≡ made_of old key before
+
+-- the one, if there is one
+abbrev pub one_if : Option Owner → List Owner
+one_if None = []
+one_if (Some owner) = owner ∷ []

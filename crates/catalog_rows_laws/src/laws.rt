@@ -11,9 +11,10 @@ ghost use Rattle.catalog_rows.specs.Owners.{Owner, SchemaIs};
 ghost use Rattle.catalog_rows.specs.Lists.{rows_of, rows_of_all};
 ghost use Rattle.catalog_rows.specs.Stands.{Counts, IsApart, IsBelow, IsOf, Numbered, Stands, StandsWith, counter_key, counter_row, is_others};
 ghost use Rattle.catalog_rows.specs.Changes.{Exchanges, Follows, IsOne, MakesOf, is_erased, next_after, no_put, put_behind};
+ghost use Rattle.catalog_rows.specs.Objects.{is_erased_if, rows_if};
 ghost use Rattle.catalog_rows.specs.Adding.{Adds, Takes};
 ghost use Rattle.catalog_rows_laws.specs.Behind.{CanExchange, catalog_behind, numbered_behind};
-ghost use Rattle.catalog_rows_laws.specs.Beside.{ExchangesBeside, RecordsAlone, is_record};
+ghost use Rattle.catalog_rows_laws.specs.Beside.{ExchangesBeside, RecordsAlone, is_record, one_if};
 ghost use Rattle.catalog_rows_laws.specs.Changing.{ComeNumbered, LeadsTo};
 ghost use Rattle.catalog_rows_laws.specs.Laws.{AreHad, ListsOwners, no_numbered, owners_in};
 
@@ -72,14 +73,14 @@ pub fn batches_grow()
     ensures counts { (old new : List Operation) (gone come : List Owner) (next : ℕ) → Exchanges old gone come None → Adds old new (counter_row next ∷ []) → Exchanges new gone come (Some next) }
 {}
 
-/// The same of batches that do more beside with records of the log, in whatever order calls come. `exact`: what
-/// exchanges, and no more, is one. `begins`, `goes`, `comes`, `counts`: as in `batches_grow`. `records`: what is done
-/// to records alone changes nothing else. It does nothing when it runs.
+/// The same of batches that do more beside with records of the log, in whatever order calls come, and of what may have no
+/// rows. `exact`: what exchanges, and no more, is one. `begins`, `goes`, `comes`, `counts`: as in `batches_grow`.
+/// `records`: what is done to records alone changes nothing else. It does nothing when it runs.
 pub fn batches_grow_beside()
     ensures exact { (operations : List Operation) (gone come : List Owner) (counter : Option ℕ) → Exchanges operations gone come counter → ExchangesBeside operations gone come counter }
     ensures begins { ExchangesBeside [] [] [] None }
-    ensures goes { (old new : List Operation) (gone come : List Owner) (counter : Option ℕ) (owner : Owner) → ExchangesBeside old gone come counter → Takes old new (is_erased owner) → ExchangesBeside new (owner ∷ gone) come counter }
-    ensures comes { (old new : List Operation) (gone come : List Owner) (counter : Option ℕ) (owner : Owner) → ExchangesBeside old gone come counter → Adds old new (rows_of owner) → ExchangesBeside new gone (come ++ owner ∷ []) counter }
+    ensures goes { (old new : List Operation) (gone come : List Owner) (counter : Option ℕ) (owner : Option Owner) → ExchangesBeside old gone come counter → Takes old new (is_erased_if owner) → ExchangesBeside new (one_if owner ++ gone) come counter }
+    ensures comes { (old new : List Operation) (gone come : List Owner) (counter : Option ℕ) (owner : Option Owner) → ExchangesBeside old gone come counter → Adds old new (rows_if owner) → ExchangesBeside new gone (come ++ one_if owner) counter }
     ensures counts { (old new : List Operation) (gone come : List Owner) (counter : Option ℕ) (next : ℕ) → ExchangesBeside old gone come counter → Adds old new (counter_row next ∷ []) → ExchangesBeside new gone come (Some next) }
     ensures records { (old new : List Operation) (gone come : List Owner) (counter : Option ℕ) → ExchangesBeside old gone come counter → RecordsAlone old new → ExchangesBeside new gone come counter }
 {}

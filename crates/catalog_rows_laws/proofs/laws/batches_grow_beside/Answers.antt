@@ -1,4 +1,4 @@
-use Rattle.catalog_rows_laws.proofs.Beside.{exact, begins_beside, goes_beside, comes_beside, counts_beside, records_beside}
+use Rattle.catalog_rows_laws.proofs.Beside.{exact, begins_beside, goes_if, comes_if, counts_beside, records_beside}
 use Rattle.catalog_rows_laws.proofs.laws.batches_grow_beside.Goals as goal
 
 pub returns-clause-exact : goal.returns-clause-exact
@@ -8,10 +8,10 @@ pub returns-clause-begins : goal.returns-clause-begins
 returns-clause-begins c = begins_beside
 
 pub returns-clause-goes : goal.returns-clause-goes
-returns-clause-goes c = goes_beside
+returns-clause-goes c = goes_if
 
 pub returns-clause-comes : goal.returns-clause-comes
-returns-clause-comes c = comes_beside
+returns-clause-comes c = comes_if
 
 pub returns-clause-counts : goal.returns-clause-counts
 returns-clause-counts c = counts_beside
