@@ -1,0 +1,4 @@
+pub mod Laws
+pub mod Changing
+pub mod Behind
+pub mod Beside
