@@ -3,7 +3,7 @@ use sql_ast::{
     TableBody, TableStatement, ViewStatement,
 };
 
-/// The words by which a statement is told in the tables, or "none" for a text that is none.
+/// The words by which a statement is told, or "none" for a text that is none.
 pub fn kind_of(statement: &Statement) -> &'static str {
     match statement {
         Statement::Schema(schema) => schema_kind(schema),
