@@ -3,8 +3,8 @@ use Rattle.std.specs.Prelude.{ℕ, zero, suc, ◌≡◌, ◌≢◌, ◌+◌, ◌
 use Rattle.std.specs.Arc.{arc_value}
 use Rattle.dd_names.specs.declared.object_name.ObjectKey.{ObjectKey}
 use Rattle.dd_catalog.specs.declared.object.Object.{Object}
-use Rattle.shared_cache.specs.declared.shared.Found.{Found}
-use Rattle.shared_cache.specs.declared.shared.Found.TheVariants.{Hit, Loading, Miss}
+use Rattle.shared_cache.specs.declared.found.Found.{Found}
+use Rattle.shared_cache.specs.declared.found.Found.TheVariants.{Hit, Loading, Miss}
 use Rattle.shared_cache.specs.State.{Cache, same_key, listed, uses, loader, among, without}
 
 -- nothing is listed or loaded

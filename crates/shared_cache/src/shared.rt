@@ -3,8 +3,9 @@ ghost use Rattle.std.specs.Arc.{arc_value};
 ghost use Rattle.shared_cache.specs.State.{listed, uses, loader, without, IsSound};
 ghost use Rattle.shared_cache.specs.Calls.{found_told, found_after, use_ended, IsAt, IsEmpty, IsSame};
 
-use crate::slots::{Slots, begin, ends_last, fill, is_listed, ticket_key, use_slot};
-use crate::unused::{rest, take_out};
+use crate::found::{Found, find};
+use crate::slots::{Slots, ends_last, fill, is_listed};
+use crate::unused::{Unused, rest, take_out};
 use dd_catalog::Object;
 use dd_names::{ObjectKey, TryCopy};
 use lru::LruCache;
@@ -14,22 +15,12 @@ use std::collections::BTreeMap;
 use std::marker::Model;
 use std::sync::Arc;
 
-/// What a session finds at a key.
-pub enum Found {
-    /// The object, which has one use more.
-    Hit(Arc<Object>),
-    /// Another session is loading it.
-    Loading { by: u32 },
-    /// Nothing is there, and the session may load it: it has the ticket, and there is room for the object.
-    Miss(Ticket),
-}
-
 /// The objects that all sessions share, one a key at most, also what is absent. An object has as many uses as sessions
 /// have said; one without use stays while there is capacity for it.
 #[derive(Drop)]
 pub struct Shared {
     slots: Slots,
-    unused: LruCache<ObjectKey, ()>,
+    unused: Unused,
     capacity: usize,
 }
 
@@ -64,10 +55,7 @@ impl Shared {
         ensures after { IfOk result (λ found. found_after found self.old self.new key.now session) }
         ensures err { OnErr result (IsSame self.old self.new) }
     {
-        match self.slots.get_mut(key) {
-            None => begin(&mut self.slots, key, session),
-            Some(slot) => use_slot(slot, &mut self.unused, key),
-        }
+        find(&mut self.slots, &mut self.unused, key, session)
     }
 
     /// Lists the object that was loaded, with one use, and takes the ticket back.
@@ -83,7 +71,8 @@ impl Shared {
         requires ticket { loader self.old ticket.key ≡ Some ticket.session }
         ensures { IsAt self.old self.new ticket.key None 0 None self.old.unused }
     {
-        self.slots.remove(&ticket_key(ticket));
+        let Ticket { key, session: _ } = ticket;
+        self.slots.remove(&key);
     }
 
     /// Takes the object at the key away, whatever its uses. Who loads the key has the ticket as before.

@@ -1,6 +1,15 @@
 // What stands at each key.
+ghost use Rattle.std.specs.Prelude.{◌≡◌, ◌<◌, ◌==◌, Some, None, IfOk, OnOk, OnErr, IsSome, is_some};
+ghost use Rattle.std.specs.Option.{option_copied, option_map};
+ghost use Rattle.shared_cache.specs.declared.slots.Slot.TheVariants.{Room, Listed};
+ghost use Rattle.shared_cache.specs.State.{slot_at, object_in, uses_in, loader_in};
+ghost use Rattle.shared_cache.specs.Fields.{AreSlots, IsSlot};
+ghost use Rattle.shared_cache.specs.Uses.{is_used, one_less};
+
 use dd_catalog::Object;
-use dd_names::ObjectKey;
+use dd_names::{ObjectKey, TryCopy};
+use miss_table::Ticket;
+use std::alloc::AllocError;
 use std::collections::BTreeMap;
 use std::sync::Arc;
 
@@ -13,4 +22,105 @@ pub enum Slot {
     Listed { object: Arc<Object>, uses: u64 },
 }
 
+/// What a look at a slot comes to.
+#[derive(Drop)]
+pub(crate) enum Seen {
+    /// The object, which has one use more.
+    Hit(Arc<Object>),
+    /// The session that loads it.
+    Loading { by: u32 },
+}
+
 pub(crate) type Slots = BTreeMap<ObjectKey, Slot>;
+
+/// Makes room for the object of a key at which nothing stands. For want of memory all stays as it is.
+pub(crate) fn make_room(
+    slots: &mut Slots,
+    key: &ObjectKey,
+    session: u32,
+) -> Result<Ticket, AllocError>
+    ensures ticket { IfOk result (λ ticket. ticket ≡ record { key = key.now; session = session }) }
+    ensures room { OnOk result (IsSlot slots.old slots.new key.now (Some (Room session))) }
+    ensures err { OnErr result (AreSlots slots.old slots.new) }
+{
+    enter(slots, key, key.copy()?, session)
+}
+
+fn enter(
+    slots: &mut Slots,
+    key: &ObjectKey,
+    told: ObjectKey,
+    session: u32,
+) -> Result<Ticket, AllocError>
+    ensures ticket { IfOk result (λ ticket. ticket ≡ record { key = told; session = session }) }
+    ensures room { OnOk result (IsSlot slots.old slots.new key.now (Some (Room session))) }
+    ensures err { OnErr result (AreSlots slots.old slots.new) }
+{
+    slots.insert(key.copy()?, Slot::Room { by: session })?;
+    Ok(Ticket { key: told, session })
+}
+
+/// One use more of what is listed, or who loads it.
+pub(crate) fn one_more(slot: &mut Slot) -> Result<Seen, AllocError>
+    ensures used { IfOk result (λ seen. is_used seen slot.old slot.new) }
+    ensures err { OnErr result (slot.new ≡ slot.old) }
+{
+    match slot {
+        Slot::Room { by } => Ok(Seen::Loading { by: *by }),
+        Slot::Listed { object, uses } => match uses.checked_add(1) {
+            Some(more) => {
+                let hit = Arc::try_clone(object)?;
+                *uses = more;
+                Ok(Seen::Hit(hit))
+            }
+            None => Err(AllocError),
+        },
+    }
+}
+
+/// Lists the object in its room, with one use.
+pub(crate) fn fill(slots: &mut Slots, ticket: Ticket, object: Arc<Object>)
+    requires { loader_in (slot_at slots.old.entries ticket.key) ≡ Some ticket.session }
+    ensures { IsSlot slots.old slots.new ticket.key (Some (Listed object 1)) }
+{
+    let Ticket { key, session: _ } = ticket;
+    if let Some(slot) = slots.get_mut(&key) {
+        *slot = Slot::Listed { object, uses: 1 };
+    }
+}
+
+/// Whether an object is listed there.
+pub(crate) fn is_listed(slot: Option<&Slot>) -> bool
+    ensures { result ≡ is_some (object_in (option_copied slot)) }
+{
+    match slot {
+        Some(Slot::Listed { object: _, uses: _ }) => true,
+        _ => false,
+    }
+}
+
+/// Ends a use of what is listed at the key, and tells whether it was the last.
+pub(crate) fn ends_last(slots: &mut Slots, key: &ObjectKey) -> bool
+    requires { IsSome (object_in (slot_at slots.old.entries key.now)) → 0 < uses_in (slot_at slots.old.entries key.now) }
+    ensures last { result ≡ (uses_in (slot_at slots.old.entries key.now) == 1) }
+    ensures slot { IsSlot slots.old slots.new key.now (option_map one_less (slot_at slots.old.entries key.now)) }
+{
+    match slots.get_mut(key) {
+        Some(slot) => ends_use(slot),
+        None => false,
+    }
+}
+
+fn ends_use(slot: &mut Slot) -> bool
+    requires { IsSome (object_in (Some slot.old)) → 0 < uses_in (Some slot.old) }
+    ensures last { result ≡ (uses_in (Some slot.old) == 1) }
+    ensures slot { slot.new ≡ one_less slot.old }
+{
+    match slot {
+        Slot::Room { by: _ } => false,
+        Slot::Listed { object: _, uses } => {
+            *uses -= 1;
+            *uses == 0
+        }
+    }
+}
