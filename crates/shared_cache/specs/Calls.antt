@@ -8,12 +8,12 @@ use Rattle.shared_cache.specs.declared.found.Found.TheVariants.{Hit, Loading, Mi
 use Rattle.shared_cache.specs.State.{Cache, same_key, listed, uses, loader, among, without}
 
 -- nothing is listed or loaded
-pub record IsEmpty (cache : Cache) (capacity : ℕ) : Type 0 where
+pub record IsEmpty (cache : Cache) (bound : ℕ) : Type 0 where
   pub objects : (key : ObjectKey) → listed cache key ≡ None
   pub counts : (key : ObjectKey) → uses cache key ≡ 0
   pub loaders : (key : ObjectKey) → loader cache key ≡ None
   pub rests : cache.unused ≡ []
-  pub capacity : cache.capacity ≡ capacity
+  pub capacity : cache.capacity ≡ bound
 
 -- nothing has changed
 pub record IsSame (old new : Cache) : Type 0 where

@@ -26,17 +26,17 @@ is_used (Hit hit) (Room session) new = ⊥
 is_used (Loading by) (Listed object uses) new = ⊥
 
 -- the object that is listed at the key has one use more, and is not unused
-pub record IsHit (hit : Arc Object (Unit {0})) (old new : Slots) (before after : Unused) (key : ObjectKey) : Type 0 where
+pub record IsHit (is_used : Slot → Slot → Type 0) (old new : Slots) (before after : Unused) (key : ObjectKey) : Type 0 where
   pub slot : Slot
   pub was : slot_at old.entries key ≡ Some slot
   pub now : Slot
-  pub used : is_used (Hit hit) slot now
+  pub used : is_used slot now
   pub is : IsSlot old new key (Some now)
   pub unused : keys_of after.entries ≡ without key (keys_of before.entries)
 
 -- what is found by the slots
 abbrev pub found_in : Found → Slots → Slots → Unused → Unused → ObjectKey → ℕ → Type 0
-found_in (found.Hit hit) old new before after key session = IsHit hit old new before after key
+found_in (found.Hit hit) old new before after key session = IsHit (is_used (Hit hit)) old new before after key
 found_in (found.Loading by) old new before after key session = (slot_at old.entries key ≡ Some (Room by)) × AreSlots old new × (after ≡ before)
 found_in (found.Miss ticket) old new before after key session =
     (slot_at old.entries key ≡ None) × (ticket ≡ record { key = key; session = session }) × IsSlot old new key (Some (Room session)) × (after ≡ before)

@@ -1,4 +1,4 @@
-ghost use Rattle.std.specs.Prelude.{ℕ, ◌≡◌, ◌≢◌, ◌<◌, [], length, Option, Some, None, IfOk, OnErr, IsSome};
+ghost use Rattle.std.specs.Prelude.{◌≡◌, ◌≢◌, ◌<◌, length, Some, None, IfOk, OnErr, IsSome};
 ghost use Rattle.std.specs.Arc.{arc_value};
 ghost use Rattle.shared_cache.specs.State.{listed, uses, loader, without, IsSound};
 ghost use Rattle.shared_cache.specs.Calls.{found_told, found_after, use_ended, IsAt, IsEmpty, IsSame};
@@ -79,7 +79,7 @@ impl Shared {
     pub fn drop_key(&mut self, key: &ObjectKey)
         ensures { IsAt self.old self.new key.now None 0 (loader self.old key.now) (without key.now self.old.unused) }
     {
-        if is_listed(self.slots.get(key)) {
+        if is_listed(&self.slots, key) {
             self.slots.remove(key);
             take_out(&mut self.unused, key);
         }

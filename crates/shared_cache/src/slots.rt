@@ -1,6 +1,6 @@
 // What stands at each key.
 ghost use Rattle.std.specs.Prelude.{◌≡◌, ◌<◌, ◌==◌, Some, None, IfOk, OnOk, OnErr, IsSome, is_some};
-ghost use Rattle.std.specs.Option.{option_copied, option_map};
+ghost use Rattle.std.specs.Option.{option_map};
 ghost use Rattle.shared_cache.specs.declared.slots.Slot.TheVariants.{Room, Listed};
 ghost use Rattle.shared_cache.specs.State.{slot_at, object_in, uses_in, loader_in};
 ghost use Rattle.shared_cache.specs.Fields.{AreSlots, IsSlot};
@@ -89,11 +89,11 @@ pub(crate) fn fill(slots: &mut Slots, ticket: Ticket, object: Arc<Object>)
     }
 }
 
-/// Whether an object is listed there.
-pub(crate) fn is_listed(slot: Option<&Slot>) -> bool
-    ensures { result ≡ is_some (object_in (option_copied slot)) }
+/// Whether an object is listed at the key.
+pub(crate) fn is_listed(slots: &Slots, key: &ObjectKey) -> bool
+    ensures { result ≡ is_some (object_in (slot_at slots.now.entries key.now)) }
 {
-    match slot {
+    match slots.get(key) {
         Some(Slot::Listed { object: _, uses: _ }) => true,
         _ => false,
     }
