@@ -92,6 +92,7 @@ unchanged key (k ∷ keys) apart =
 
 -- what an entry's removal leaves where no key comes twice
 pub removed : (key : ObjectKey) (entries : List (ObjectKey × Unit {0})) → IsDistinct key_eq (keys_of entries) → keys_of (remove_entry (key_eq key) entries) ≡ without key (keys_of entries)
+unfolding IsDistinct
 removed key [] apart = refl
 removed key (e ∷ entries) apart = on (removed key entries apart.1) (key_eq key e.0) refl
   where
@@ -140,6 +141,7 @@ not_first k other (l ∷ keys) apart is = on (not_first k other keys apart.1) (s
 
 -- of keys that are apart the first n are those that aren't among the others
 pub among-take : (n : ℕ) (keys : List ObjectKey) → IsDistinct key_eq keys → (other : ObjectKey) → among (take n keys) other ≡ cond (among (drop n keys) other) false (among keys other)
+unfolding IsDistinct
 among-take zero keys apart other = on (among keys other)
   where
     on : (b : Bool) → false ≡ cond b false b

@@ -1,2 +1,4 @@
 pub mod Keys
 pub mod Sound
+pub mod Entries
+pub mod Finds

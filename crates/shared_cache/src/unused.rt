@@ -1,5 +1,5 @@
 // The keys of the objects without use, the one that lost its last use latest first.
-ghost use Rattle.std.specs.Prelude.{◌≡◌, ◌≤◌, ◌-◌, ◌^◌, ◌∷◌, [], ◌++◌, ◌⊎◌, false, take, drop, length, IfOk, OnOk, OnErr};
+ghost use Rattle.std.specs.Prelude.{◌≡◌, ◌≤◌, ◌-◌, ◌^◌, ◌∷◌, ◌⊎◌, false, take, drop, length, IfOk, OnOk, OnErr};
 ghost use Rattle.std.specs.Option.{option_to_list};
 ghost use Rattle.std.specs.Map.{keys_of};
 ghost use Rattle.std.specs.List.{IsDistinct};
@@ -32,6 +32,7 @@ pub(crate) fn rest(slots: &mut Slots, unused: &mut Unused, capacity: usize, key:
     ensures apart { IsDistinct key_eq (key.now ∷ keys_of unused.old.entries) }
     ensures cap { unused.new.cap ≡ unused.old.cap }
 {
+    let _ = unused.len();
     match put_first(unused, capacity, key) {
         Ok(None) => {}
         Ok(Some(last)) => {
@@ -77,7 +78,8 @@ fn add_first(unused: &mut Unused, key: &ObjectKey) -> Result<(), AllocError>
 }
 
 fn pop_last(unused: &mut Unused) -> Option<ObjectKey>
-    ensures keys { keys_of unused.old.entries ≡ keys_of unused.new.entries ++ option_to_list result }
+    ensures kept { keys_of unused.new.entries ≡ take (length unused.old.entries - 1) (keys_of unused.old.entries) }
+    ensures last { drop (length unused.old.entries - 1) (keys_of unused.old.entries) ≡ option_to_list result }
     ensures cap { unused.new.cap ≡ unused.old.cap }
 {
     match unused.pop_lru() {
