@@ -1,11 +1,10 @@
 -- What the list of the unused keys is after an entry has come or gone.
-use Rattle.std.proofs.Common.{◌≡◌, ℕ, zero, suc, ◌+◌, ◌-◌, ◌^◌, ◌<◌, ◌≤◌, Bool, true, false, cond, List, [], ◌∷◌, length, map, take, drop, refl, sym, ◌∙◌, ap, subst, arith}
-use Rattle.std.specs.Prelude.{Option, Some, None, slice_get}
-use Rattle.std.specs.Option.{option_to_list, option_map_or}
-use Rattle.std.specs.Map.{keys_of, lookup_entry, remove_entry}
+use Rattle.std.proofs.Common.{◌≡◌, ℕ, zero, suc, ◌-◌, ◌^◌, ◌<◌, ◌≤◌, false, List, [], ◌∷◌, length, take, drop, refl, sym, ◌∙◌, ap, arith}
+use Rattle.std.specs.Prelude.{Some, None, slice_get}
+use Rattle.std.specs.Option.{option_map_or}
+use Rattle.std.specs.Map.{keys_of, remove_entry}
 use Rattle.std.proofs.lemmas.List.{drop_all, take_all, take-map, length-map}
-use Rattle.std.proofs.lemmas.Option.{slice_get_cases}
-use Rattle.lru.specs.LruCache.{LruCache, put_entries}
+use Rattle.lru.specs.LruCache.{put_entries}
 use Rattle.dd_names.specs.declared.object_name.ObjectKey.{ObjectKey}
 use Rattle.shared_cache.specs.State.{among}
 use Rattle.shared_cache.specs.Fields.{Unused, key_eq}

@@ -1,5 +1,5 @@
 -- What a look finds in the slots, and what it leaves.
-use Rattle.std.proofs.Common.{◌≡◌, ◌≢◌, ℕ, ◌+◌, Bool, true, false, cond, List, refl, sym, ◌∙◌, ap, subst, arith}
+use Rattle.std.proofs.Common.{◌≡◌, ◌≢◌, ℕ, ◌+◌, Bool, true, false, cond, refl, sym, ◌∙◌, ap, subst, arith}
 use Rattle.std.specs.Prelude.{Option, Some, None, Result, Ok, Err, IfOk, OnErr}
 use Rattle.std.proofs.lemmas.Bool.{ne_eqb}
 use Rattle.std.specs.Option.{option_map}
@@ -11,9 +11,9 @@ use Rattle.shared_cache.specs.declared.found.Found.TheVariants.{Hit, Loading, Mi
 use Rattle.shared_cache.specs.declared.slots.Seen.TheVariants as seen
 use Rattle.shared_cache.specs.declared.slots.Slot.{Slot}
 use Rattle.shared_cache.specs.declared.slots.Slot.TheVariants.{Room, Listed}
-use Rattle.shared_cache.specs.State.{Cache, same_key, slot_at, object_in, uses_in, loader_in, loader, listed, uses, without}
+use Rattle.shared_cache.specs.State.{same_key, slot_at, object_in, uses_in, loader_in, loader, uses, without}
 use Rattle.shared_cache.specs.Fields.{Slots, Unused, cache_of, AreSound, IsSlot, AreSlots}
-use Rattle.shared_cache.specs.Uses.{one_less, is_used, used_in, found_in, IsHit}
+use Rattle.shared_cache.specs.Uses.{one_less, is_used, used_in, found_in}
 use Rattle.shared_cache.specs.Calls.{IsAt, IsSame, found_told, found_after}
 use Rattle.shared_cache.proofs.Keys.{one}
 use Rattle.shared_cache.proofs.Sound.{is_at, is_same, idle_in, taken_sound, stays_sound, same_sound}
@@ -44,7 +44,7 @@ none_ends old new key none same other =
 
 of_slot : (found : Found) (old new : Slots) (before after : Unused) (key : ObjectKey) (session : ℕ) (slot now : Slot) → slot_at old.entries key ≡ Some slot → IsSlot old new key (Some now)
     → used_in found slot now before after key → found_in found old new before after key session
-of_slot (Hit hit) old new before after key session slot now was is used = record { slot = slot; was = was; now = now; used = used.0; is = is; unused = used.1; }
+of_slot (Hit hit) old new before after key session slot now was is used = record { slot = slot; was = was; now = now; used = used.0; is = is; unused = used.1 }
 of_slot (Loading by) old new before after key session (Room session') now was is used =
     (was ∙ ap (λ s. Some (Room s)) (sym used.0.1), put_back old new key (subst (IsSlot old new key) (ap Some used.0.0 ∙ sym was) is), used.1)
 of_slot (Loading by) old new before after key session (Listed object uses) now was is used = absurd used.0
@@ -82,9 +82,9 @@ left : (found : Found) (old new : Slots) (before after : Unused) (capacity : ℕ
 left (Hit hit) old new before after capacity key session found =
     let used = hit_uses hit found.slot found.now found.used in
     subst (λ object. IsAt (cache_of old before capacity) (cache_of new after capacity) key object (uses (cache_of old before capacity) key + 1) None (without key (keys_of before.entries))) (used.0 ∙ sym (ap object_in found.was))
-        (subst (λ count. IsAt (cache_of old before capacity) (cache_of new after capacity) key (object_in (Some found.now)) count None (without key (keys_of before.entries))) (used.1 ∙ ap (λ s. uses_in s + 1) (sym found.was))
-            (subst (λ session. IsAt (cache_of old before capacity) (cache_of new after capacity) key (object_in (Some found.now)) (uses_in (Some found.now)) session (without key (keys_of before.entries))) used.2
-                (is_at old new before after capacity key (Some found.now) (without key (keys_of before.entries)) found.is found.unused)))
+    (subst (λ count. IsAt (cache_of old before capacity) (cache_of new after capacity) key (object_in (Some found.now)) count None (without key (keys_of before.entries))) (used.1 ∙ ap (λ s. uses_in s + 1) (sym found.was))
+    (subst (λ session. IsAt (cache_of old before capacity) (cache_of new after capacity) key (object_in (Some found.now)) (uses_in (Some found.now)) session (without key (keys_of before.entries))) used.2
+    (is_at old new before after capacity key (Some found.now) (without key (keys_of before.entries)) found.is found.unused)))
 left (Loading by) old new before after capacity key session found = is_same old new before after capacity found.1 found.2
 left (Miss ticket) old new before after capacity key session found =
     is_at old new before after capacity key (Some (Room session)) (keys_of before.entries) found.2 (ap (λ (u : Unused). keys_of u.entries) found.3)

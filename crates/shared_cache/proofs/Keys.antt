@@ -1,7 +1,7 @@
 -- Keys that tie are one, and lists of keys.
-use Rattle.std.proofs.Common.{◌≡◌, ℕ, zero, suc, ◌+◌, ◌≤◌, Bool, true, false, cond, List, [], ◌∷◌, length, take, drop, ◌||◌, ◌&&◌, refl, sym, ◌∙◌, ap, subst, arith}
-use Rattle.std.specs.Prelude.{not, filter, Option, Some, None}
-use Rattle.std.specs.List.{list_any, IsDistinct, AllByRecursion}
+use Rattle.std.proofs.Common.{◌≡◌, ℕ, zero, suc, ◌≤◌, Bool, true, false, cond, List, [], ◌∷◌, length, take, drop, ◌||◌, ◌&&◌, refl, sym, ◌∙◌, ap, subst, arith}
+use Rattle.std.specs.Prelude.{not, Some, None}
+use Rattle.std.specs.List.{IsDistinct, AllByRecursion}
 use Rattle.std.specs.Map.{keys_of, lookup_entry, remove_entry}
 use Rattle.std.specs.declared.cmp.Ordering.{Ordering}
 use Rattle.std.specs.declared.cmp.Ordering.TheVariants.{Less, Equal, Greater}
@@ -85,7 +85,7 @@ fewer key (k ∷ keys) = on (not (same_key key k)) (fewer key keys)
     on true le = omega (arith, le)
     on false le = omega (arith, le)
 
-unchanged : (key : ObjectKey) (keys : List ObjectKey) → AllByRecursion (λ k. key_eq key k ≡ false) keys → without key keys ≡ keys
+pub unchanged : (key : ObjectKey) (keys : List ObjectKey) → AllByRecursion (λ k. key_eq key k ≡ false) keys → without key keys ≡ keys
 unchanged key [] apart = refl
 unchanged key (k ∷ keys) apart =
     ap (λ b. cond (not b) (k ∷ without key keys) (without key keys)) (sym (tied key k) ∙ apart.0) ∙ ap (λ keys. k ∷ keys) (unchanged key keys apart.1)

@@ -1,24 +1,20 @@
 -- What calls leave, by what stands at the keys.
-use Rattle.std.proofs.Common.{◌≡◌, ℕ, zero, suc, ◌+◌, ◌≤◌, Bool, true, false, cond, List, [], ◌∷◌, length, take, drop, ◌||◌, ◌&&◌, refl, sym, ◌∙◌, ap, subst, arith, ◌⊎◌, inl, inr, nat_eq}
+use Rattle.std.proofs.Common.{◌≡◌, ℕ, ◌≤◌, Bool, true, false, cond, List, length, ◌&&◌, refl, sym, ◌∙◌, ap, subst, arith}
 use Rattle.std.specs.Prelude.{Option, Some, None, is_some, ◌==◌}
-use Rattle.std.specs.List.{IsDistinct}
 use Rattle.std.specs.Map.{keys_of}
-use Rattle.std.proofs.lemmas.Bool.{true≢false, eqb-true}
-use Rattle.std.proofs.lemmas.List.{length-take}
 use Rattle.dd_names.specs.declared.object_name.ObjectKey.{ObjectKey}
 use Rattle.shared_cache.specs.declared.slots.Slot.{Slot}
 use Rattle.shared_cache.specs.declared.slots.Slot.TheVariants.{Room, Listed}
-use Rattle.shared_cache.specs.State.{Cache, same_key, slot_at, object_in, uses_in, loader_in, among, without, IsSound}
-use Rattle.shared_cache.specs.Fields.{Slots, Unused, cache_of, AreSound, IsSlot, AreSlots, HaveLeft, key_eq}
-use Rattle.shared_cache.specs.Uses.{one_less}
-use Rattle.shared_cache.specs.Calls.{IsAt, IsSame, Rests}
-use Rattle.shared_cache.proofs.Keys.{one, itself, among-without, fewer, apart_from, among-take}
+use Rattle.shared_cache.specs.State.{same_key, slot_at, object_in, uses_in, loader_in, among, without}
+use Rattle.shared_cache.specs.Fields.{Slots, Unused, cache_of, AreSound, IsSlot, AreSlots}
+use Rattle.shared_cache.specs.Calls.{IsAt, IsSame}
+use Rattle.shared_cache.proofs.Keys.{one, among-without, fewer}
 
 -- an object without use is listed there
 abbrev pub idle_in : Option Slot → Bool
 idle_in slot = is_some (object_in slot) && (uses_in slot == 0)
 
-through : {X Y : Type 0} (f : X → Y) (b : Bool) (x y : X) → f (cond b x y) ≡ cond b (f x) (f y)
+pub through : {X Y : Type 0} (f : X → Y) (b : Bool) (x y : X) → f (cond b x y) ≡ cond b (f x) (f y)
 through f true x y = refl
 through f false x y = refl
 
@@ -92,3 +88,14 @@ same_sound old new before after capacity sound are same = record {
   };
   unbounded = ap (λ u. u.cap) same ∙ sound.unbounded;
 }
+
+no_room : (slot : Option Slot) (session : ℕ) → loader_in slot ≡ Some session → idle_in slot ≡ false
+no_room None session is = refl
+no_room (Some (Room by)) session is = refl
+no_room (Some (Listed object uses)) session is = absurd cc
+
+-- a key that was loaded
+pub loaded_sound : (old new : Slots) (unused : Unused) (capacity : ℕ) (key : ObjectKey) (session : ℕ) (slot : Option Slot)
+    → AreSound old unused capacity → IsSlot old new key slot → loader_in (slot_at old.entries key) ≡ Some session → idle_in slot ≡ false → AreSound new unused capacity
+loaded_sound old new unused capacity key session slot sound is loads busy =
+    stays_sound old new unused unused capacity key slot sound is (no_room (slot_at old.entries key) session loads) busy refl refl

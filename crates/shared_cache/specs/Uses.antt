@@ -7,10 +7,9 @@ use Rattle.shared_cache.specs.declared.slots.Seen.{Seen}
 use Rattle.shared_cache.specs.declared.slots.Seen.TheVariants.{Hit, Loading}
 use Rattle.shared_cache.specs.declared.slots.Slot.{Slot}
 use Rattle.shared_cache.specs.declared.slots.Slot.TheVariants.{Room, Listed}
-
 use Rattle.shared_cache.specs.declared.found.Found.{Found}
 use Rattle.shared_cache.specs.declared.found.Found.TheVariants as found
-use Rattle.shared_cache.specs.State.{slot_at, object_in, uses_in, without}
+use Rattle.shared_cache.specs.State.{slot_at, without}
 use Rattle.shared_cache.specs.Fields.{Slots, Unused, AreSlots, IsSlot}
 
 -- the slot with one use less

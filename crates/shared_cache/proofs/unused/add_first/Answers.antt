@@ -1,6 +1,5 @@
 use Rattle.std.proofs.Common.{◌<◌, ◌^◌, ◌∙◌, ap, subst}
 use Rattle.std.specs.Map.{keys_of}
-use Rattle.dd_names.specs.declared.object_name.ObjectKey.{ObjectKey}
 use Rattle.shared_cache.specs.Fields.{Unused}
 use Rattle.shared_cache.proofs.Entries.{put_before}
 use Rattle.shared_cache.proofs.unused.add_first.Goals as goal
