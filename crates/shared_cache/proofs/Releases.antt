@@ -12,7 +12,7 @@ use Rattle.shared_cache.specs.declared.slots.Slot.{Slot}
 use Rattle.shared_cache.specs.declared.slots.Slot.TheVariants.{Room, Listed}
 use Rattle.shared_cache.specs.State.{same_key, slot_at, object_in, uses_in, loader_in, loader, listed, uses, among, without}
 use Rattle.shared_cache.specs.Fields.{Slots, Unused, cache_of, AreSound, IsSlot, HaveLeft, key_eq}
-use Rattle.shared_cache.specs.Uses.{one_less}
+use Rattle.shared_cache.specs.Uses.{one_less, has_rested}
 use Rattle.shared_cache.specs.Calls.{IsAt, Rests, use_ended}
 use Rattle.shared_cache.proofs.Keys.{one, among-take, apart_from, unchanged}
 use Rattle.shared_cache.proofs.Sound.{is_at, is_same, idle_in, stays_sound, through}
@@ -243,13 +243,8 @@ module _ (old mid new : Slots) (before after : Unused) (capacity : ℕ) (key : O
     leaves_sound : after.cap ≡ before.cap → AreSound new after capacity
     leaves_sound cap = stays_sound old new before after capacity key None sound nothing_now last.busy refl same cap
 
-abbrev RestedOrLeft : Slots → Slots → Unused → Unused → ℕ → ObjectKey → Type 0
-RestedOrLeft mid new before after capacity key =
-    ((keys_of after.entries ≡ take capacity (key ∷ keys_of before.entries)) × HaveLeft mid new (drop capacity (key ∷ keys_of before.entries)))
-    ⊎ ((keys_of after.entries ≡ keys_of before.entries) × IsSlot mid new key None)
-
 pub last_left : (old mid new : Slots) (before after : Unused) (capacity : ℕ) (key : ObjectKey) → AreSound old before capacity → WasLast (slot_at old.entries key)
-    → IsSlot old mid key (option_map one_less (slot_at old.entries key)) → RestedOrLeft mid new before after capacity key
+    → IsSlot old mid key (option_map one_less (slot_at old.entries key)) → has_rested mid new before after capacity key
     → use_ended (uses (cache_of old before capacity) key) (cache_of old before capacity) (cache_of new after capacity) key
 last_left old mid new before after capacity key sound last ended (inl kept) =
     subst (λ count. use_ended count (cache_of old before capacity) (cache_of new after capacity) key) (sym last.uses) (inl (rests old mid new before after capacity key sound last ended kept.0 kept.1))
@@ -257,7 +252,7 @@ last_left old mid new before after capacity key sound last ended (inr left) =
     subst (λ count. use_ended count (cache_of old before capacity) (cache_of new after capacity) key) (sym last.uses) (inr (leaves_itself old mid new before after capacity key sound last ended left.0 left.1))
 
 pub last_sound : (old mid new : Slots) (before after : Unused) (capacity : ℕ) (key : ObjectKey) → AreSound old before capacity → WasLast (slot_at old.entries key)
-    → IsSlot old mid key (option_map one_less (slot_at old.entries key)) → IsDistinct key_eq (key ∷ keys_of before.entries) → after.cap ≡ before.cap → RestedOrLeft mid new before after capacity key
+    → IsSlot old mid key (option_map one_less (slot_at old.entries key)) → IsDistinct key_eq (key ∷ keys_of before.entries) → after.cap ≡ before.cap → has_rested mid new before after capacity key
     → AreSound new after capacity
 last_sound old mid new before after capacity key sound last ended apart cap (inl kept) = rests_sound old mid new before after capacity key sound last ended kept.0 kept.1 apart cap
 last_sound old mid new before after capacity key sound last ended apart cap (inr left) = leaves_sound old mid new before after capacity key sound last ended left.0 left.1 cap

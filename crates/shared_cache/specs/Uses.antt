@@ -1,5 +1,5 @@
 -- How uses begin and end at a slot.
-use Rattle.std.specs.Prelude.{ℕ, ◌≡◌, ◌+◌, ◌-◌, Some, None}
+use Rattle.std.specs.Prelude.{ℕ, ◌≡◌, ◌+◌, ◌-◌, ◌⊎◌, ◌∷◌, take, drop, Some, None}
 use Rattle.std.specs.Arc.{arc_value}
 use Rattle.std.specs.Map.{keys_of}
 use Rattle.dd_names.specs.declared.object_name.ObjectKey.{ObjectKey}
@@ -10,7 +10,7 @@ use Rattle.shared_cache.specs.declared.slots.Slot.TheVariants.{Room, Listed}
 use Rattle.shared_cache.specs.declared.found.Found.{Found}
 use Rattle.shared_cache.specs.declared.found.Found.TheVariants as found
 use Rattle.shared_cache.specs.State.{slot_at, without}
-use Rattle.shared_cache.specs.Fields.{Slots, Unused, AreSlots, IsSlot}
+use Rattle.shared_cache.specs.Fields.{Slots, Unused, AreSlots, IsSlot, HaveLeft}
 
 -- the slot with one use less
 abbrev pub one_less : Slot → Slot
@@ -45,3 +45,9 @@ abbrev pub used_in : Found → Slot → Slot → Unused → Unused → ObjectKey
 used_in (found.Hit hit) old new before after key = is_used (Hit hit) old new × (keys_of after.entries ≡ without key (keys_of before.entries))
 used_in (found.Loading by) old new before after key = is_used (Loading by) old new × (after ≡ before)
 used_in (found.Miss ticket) old new before after key = ⊥
+
+-- a key without use is the first of the unused, and those beyond the capacity have left; or it has left itself
+abbrev pub has_rested : Slots → Slots → Unused → Unused → ℕ → ObjectKey → Type 0
+has_rested old new before after capacity key =
+    ((keys_of after.entries ≡ take capacity (key ∷ keys_of before.entries)) × HaveLeft old new (drop capacity (key ∷ keys_of before.entries)))
+    ⊎ ((keys_of after.entries ≡ keys_of before.entries) × IsSlot old new key None)

@@ -4,7 +4,7 @@ ghost use Rattle.shared_cache.specs.State.{listed, uses, loader, without, IsSoun
 ghost use Rattle.shared_cache.specs.Calls.{found_told, found_after, use_ended, IsAt, IsEmpty, IsSame};
 
 use crate::found::{Found, find};
-use crate::slots::{Slots, ends_last, fill, is_listed};
+use crate::slots::{Slots, ends_last, fill, is_listed, leave};
 use crate::unused::{Unused, rest, take_out};
 use dd_catalog::Object;
 use dd_names::{ObjectKey, TryCopy};
@@ -48,7 +48,8 @@ impl Shared {
         })
     }
 
-    /// The object at the key with one use more, or who loads it, or a ticket to load it. For want of memory all stays as it is.
+    /// The object at the key with one use more, or who loads it, or a ticket to load it. For want of memory all stays
+    /// as it is.
     pub fn get(&mut self, key: &ObjectKey, session: u32) -> Result<Found, AllocError>
         requires once { loader self.old key.now ≢ Some session }
         ensures told { IfOk result (λ found. found_told found self.old key.now session) }
@@ -72,7 +73,7 @@ impl Shared {
         ensures { IsAt self.old self.new ticket.key None 0 None self.old.unused }
     {
         let Ticket { key, session: _ } = ticket;
-        self.slots.remove(&key);
+        leave(&mut self.slots, &key);
     }
 
     /// Takes the object at the key away, whatever its uses. Who loads the key has the ticket as before.
@@ -80,13 +81,14 @@ impl Shared {
         ensures { IsAt self.old self.new key.now None 0 (loader self.old key.now) (without key.now self.old.unused) }
     {
         if is_listed(&self.slots, key) {
-            self.slots.remove(key);
+            leave(&mut self.slots, key);
             take_out(&mut self.unused, key);
         }
     }
 
     /// Ends a use of the object that is listed at the key; where none is listed nothing changes. After its last use it
-    /// is the first of those without use, and what the capacity has no place for leaves; for want of memory it leaves itself.
+    /// is the first of those without use, and what the capacity has no place for leaves; for want of memory it leaves
+    /// itself.
     pub fn release(&mut self, key: &ObjectKey)
         requires used { IsSome (listed self.old key.now) → 0 < uses self.old key.now }
         ensures { use_ended (uses self.old key.now) self.old self.new key.now }

@@ -7,7 +7,7 @@ ghost use Rattle.shared_cache.specs.Fields.{AreSlots, IsSlot};
 ghost use Rattle.shared_cache.specs.Uses.{is_used, one_less};
 
 use dd_catalog::Object;
-use dd_names::{ObjectKey, TryCopy};
+use dd_names::{ObjectKey, TryCopy, both};
 use miss_table::Ticket;
 use std::alloc::AllocError;
 use std::collections::BTreeMap;
@@ -43,21 +43,34 @@ pub(crate) fn make_room(
     ensures room { OnOk result (IsSlot slots.old slots.new key.now (Some (Room session))) }
     ensures err { OnErr result (AreSlots slots.old slots.new) }
 {
-    enter(slots, key, key.copy()?, session)
+    match both(key.copy(), key.copy()) {
+        Ok((stored, told)) => enter(slots, stored, told, session),
+        Err(error) => Err(error),
+    }
 }
 
 fn enter(
     slots: &mut Slots,
-    key: &ObjectKey,
+    stored: ObjectKey,
     told: ObjectKey,
     session: u32,
 ) -> Result<Ticket, AllocError>
     ensures ticket { IfOk result (λ ticket. ticket ≡ record { key = told; session = session }) }
-    ensures room { OnOk result (IsSlot slots.old slots.new key.now (Some (Room session))) }
+    ensures room { OnOk result (IsSlot slots.old slots.new stored (Some (Room session))) }
     ensures err { OnErr result (AreSlots slots.old slots.new) }
 {
-    slots.insert(key.copy()?, Slot::Room { by: session })?;
-    Ok(Ticket { key: told, session })
+    match insert_room(slots, stored, session) {
+        Ok(()) => Ok(Ticket { key: told, session }),
+        Err(error) => Err(error),
+    }
+}
+
+fn insert_room(slots: &mut Slots, key: ObjectKey, session: u32) -> Result<(), AllocError>
+    ensures room { OnOk result (IsSlot slots.old slots.new key (Some (Room session))) }
+    ensures err { OnErr result (AreSlots slots.old slots.new) }
+{
+    slots.insert(key, Slot::Room { by: session })?;
+    Ok(())
 }
 
 /// One use more of what is listed, or who loads it.
@@ -83,10 +96,30 @@ pub(crate) fn fill(slots: &mut Slots, ticket: Ticket, object: Arc<Object>)
     requires { loader_in (slot_at slots.old.entries ticket.key) ≡ Some ticket.session }
     ensures { IsSlot slots.old slots.new ticket.key (Some (Listed object 1)) }
 {
-    let Ticket { key, session: _ } = ticket;
-    if let Some(slot) = slots.get_mut(&key) {
-        *slot = Slot::Listed { object, uses: 1 };
+    put_at(slots, &ticket.key, object);
+    let Ticket { key: _, session: _ } = ticket;
+}
+
+fn put_at(slots: &mut Slots, key: &ObjectKey, object: Arc<Object>)
+    requires { IsSome (slot_at slots.old.entries key.now) }
+    ensures { IsSlot slots.old slots.new key.now (Some (Listed object 1)) }
+{
+    if let Some(slot) = slots.get_mut(key) {
+        list(slot, object);
     }
+}
+
+fn list(slot: &mut Slot, object: Arc<Object>)
+    ensures { slot.new ≡ Listed object 1 }
+{
+    *slot = Slot::Listed { object, uses: 1 };
+}
+
+/// Nothing is at the key any more.
+pub(crate) fn leave(slots: &mut Slots, key: &ObjectKey)
+    ensures { IsSlot slots.old slots.new key.now None }
+{
+    slots.remove(key);
 }
 
 /// Whether an object is listed at the key.

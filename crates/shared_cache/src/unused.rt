@@ -1,12 +1,13 @@
 // The keys of the objects without use, the one that lost its last use latest first.
-ghost use Rattle.std.specs.Prelude.{◌≡◌, ◌≤◌, ◌-◌, ◌^◌, ◌∷◌, ◌⊎◌, false, take, drop, length, IfOk, OnOk, OnErr};
+ghost use Rattle.std.specs.Prelude.{◌≡◌, ◌≤◌, ◌-◌, ◌^◌, ◌∷◌, false, take, drop, length, IfOk, OnOk, OnErr};
 ghost use Rattle.std.specs.Option.{option_to_list};
 ghost use Rattle.std.specs.Map.{keys_of};
 ghost use Rattle.std.specs.List.{IsDistinct};
 ghost use Rattle.shared_cache.specs.State.{among, without};
-ghost use Rattle.shared_cache.specs.Fields.{IsSlot, HaveLeft, key_eq};
+ghost use Rattle.shared_cache.specs.Fields.{key_eq};
+ghost use Rattle.shared_cache.specs.Uses.{has_rested};
 
-use crate::slots::Slots;
+use crate::slots::{Slots, leave};
 use dd_names::{ObjectKey, TryCopy};
 use lru::LruCache;
 use std::alloc::AllocError;
@@ -22,25 +23,21 @@ pub(crate) fn take_out(unused: &mut Unused, key: &ObjectKey)
     unused.pop(key);
 }
 
-/// The object of the key has lost its last use, and is the first of those without use. What the capacity has no place
-/// for leaves the cache; for want of memory the object itself leaves it.
+/// The object of the key has lost its last use, and is the first of those without use. What the capacity has no
+/// place for leaves the cache; for want of memory the object itself leaves it.
 pub(crate) fn rest(slots: &mut Slots, unused: &mut Unused, capacity: usize, key: &ObjectKey)
     requires absent { among (keys_of unused.old.entries) key.now ≡ false }
     requires fits { length unused.old.entries ≤ capacity }
     requires unbounded { unused.old.cap ≡ 2 ^ 64 - 1 }
-    ensures rests { ((keys_of unused.new.entries ≡ take capacity (key.now ∷ keys_of unused.old.entries)) × HaveLeft slots.old slots.new (drop capacity (key.now ∷ keys_of unused.old.entries))) ⊎ ((keys_of unused.new.entries ≡ keys_of unused.old.entries) × IsSlot slots.old slots.new key.now None) }
+    ensures rests { has_rested slots.old slots.new unused.old unused.new capacity key.now }
     ensures apart { IsDistinct key_eq (key.now ∷ keys_of unused.old.entries) }
     ensures cap { unused.new.cap ≡ unused.old.cap }
 {
     let _ = unused.len();
     match put_first(unused, capacity, key) {
         Ok(None) => {}
-        Ok(Some(last)) => {
-            slots.remove(&last);
-        }
-        Err(_) => {
-            slots.remove(key);
-        }
+        Ok(Some(last)) => leave(slots, &last),
+        Err(_) => leave(slots, key),
     }
 }
 

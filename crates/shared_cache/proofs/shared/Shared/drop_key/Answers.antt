@@ -9,12 +9,12 @@ use Rattle.shared_cache.proofs.shared.Shared.drop_key.Goals as goal
 
 pub invariant_of-self : goal.invariant_of-self
 invariant_of-self c =
-    taken_sound c.self.inside.slots c.remove.new.self c.self.inside.unused c.take_out.new.unused c.self.inside.capacity c.args.key.now None c.self.invariant c.remove.ensures.updates.0 refl
+    taken_sound c.self.inside.slots c.leave.new.slots c.self.inside.unused c.take_out.new.unused c.self.inside.capacity c.args.key.now None c.self.invariant c.leave.ensures refl
     c.take_out.ensures.keys c.take_out.ensures.cap
 
 pub returns-then-is_listed : goal.returns-then-is_listed
-returns-then-is_listed c = subst (λ (v : Cache). IsAt v (cache_of c.remove.new.self c.take_out.new.unused c.self.inside.capacity) c.args.key.now None 0 (loader v c.args.key.now) (without c.args.key.now v.unused)) c.self.view_is
-    (taken c.self.inside.slots c.remove.new.self c.self.inside.unused c.take_out.new.unused c.self.inside.capacity c.args.key.now (sym c.is_listed.ensures ∙ c.if-is_listed.true) c.remove.ensures.updates.0 c.take_out.ensures.keys)
+returns-then-is_listed c = subst (λ (v : Cache). IsAt v (cache_of c.leave.new.slots c.take_out.new.unused c.self.inside.capacity) c.args.key.now None 0 (loader v c.args.key.now) (without c.args.key.now v.unused)) c.self.view_is
+    (taken c.self.inside.slots c.leave.new.slots c.self.inside.unused c.take_out.new.unused c.self.inside.capacity c.args.key.now (sym c.is_listed.ensures ∙ c.if-is_listed.true) c.leave.ensures c.take_out.ensures.keys)
 
 pub returns-else-is_listed : goal.returns-else-is_listed
 returns-else-is_listed c = subst (λ (v : Cache). IsAt v v c.args.key.now None 0 (loader v c.args.key.now) (without c.args.key.now v.unused)) c.self.view_is
