@@ -4,7 +4,7 @@ ghost use Rattle.shared_cache.specs.State.{listed, uses, loader, without, IsSoun
 ghost use Rattle.shared_cache.specs.Calls.{found_told, found_after, use_ended, IsAt, IsEmpty, IsSame};
 
 use crate::found::{Found, find};
-use crate::slots::{Slots, ends_last, fill, is_listed, leave};
+use crate::slots::{Slots, ends_last, fill, is_listed, leave, take_back};
 use crate::unused::{Unused, rest, take_out};
 use dd_catalog::Object;
 use dd_names::{ObjectKey, TryCopy};
@@ -72,8 +72,8 @@ impl Shared {
         requires ticket { loader self.old ticket.key ≡ Some ticket.session }
         ensures { IsAt self.old self.new ticket.key None 0 None self.old.unused }
     {
-        let Ticket { key, session: _ } = ticket;
-        leave(&mut self.slots, &key);
+        leave(&mut self.slots, &ticket.key);
+        take_back(ticket);
     }
 
     /// Takes the object at the key away, whatever its uses. Who loads the key has the ticket as before.

@@ -61,7 +61,10 @@ fn enter(
 {
     match insert_room(slots, stored, session) {
         Ok(()) => Ok(Ticket { key: told, session }),
-        Err(error) => Err(error),
+        Err(error) => {
+            drop(told);
+            Err(error)
+        }
     }
 }
 
@@ -97,7 +100,13 @@ pub(crate) fn fill(slots: &mut Slots, ticket: Ticket, object: Arc<Object>)
     ensures { IsSlot slots.old slots.new ticket.key (Some (Listed object 1)) }
 {
     put_at(slots, &ticket.key, object);
-    let Ticket { key: _, session: _ } = ticket;
+    take_back(ticket);
+}
+
+/// Nobody has the ticket any more.
+pub(crate) fn take_back(ticket: Ticket) {
+    let Ticket { key, session: _ } = ticket;
+    drop(key);
 }
 
 fn put_at(slots: &mut Slots, key: &ObjectKey, object: Arc<Object>)

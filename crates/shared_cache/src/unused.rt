@@ -36,7 +36,10 @@ pub(crate) fn rest(slots: &mut Slots, unused: &mut Unused, capacity: usize, key:
     let _ = unused.len();
     match put_first(unused, capacity, key) {
         Ok(None) => {}
-        Ok(Some(last)) => leave(slots, &last),
+        Ok(Some(last)) => {
+            leave(slots, &last);
+            drop(last);
+        }
         Err(_) => leave(slots, key),
     }
 }
