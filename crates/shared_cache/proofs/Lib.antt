@@ -1,0 +1,5 @@
+pub mod Keys
+pub mod Sound
+pub mod Entries
+pub mod Finds
+pub mod Releases
