@@ -96,9 +96,12 @@ foreign_keys_refused =
     one "t" (actions.AddForeignKey (reference (Some (codes "f")) "b" "x" "id")) 1824 (codes "x" ∷ [])
     ∷ one "t" (actions.AddForeignKey (record (reference None "b" "p" "id") { parent_columns = [] })) 1239 (codes "foreign key without name" ∷ [])
     ∷ one "t" (actions.AddForeignKey (reference (Some (codes "f")) "b" "t" "n")) 3780 (codes "b" ∷ codes "n" ∷ codes "f" ∷ [])
+    -- a column is named as the statement writes it
+    ∷ one "t" (actions.AddForeignKey (reference (Some (codes "f")) "B" "t" "n")) 3780 (codes "B" ∷ codes "n" ∷ codes "f" ∷ [])
     ∷ one "t" (actions.AddForeignKey (reference (Some (codes "f")) "a" "c" "q")) 1822 (codes "f" ∷ codes "c" ∷ [])
     ∷ one "t" (actions.AddForeignKey (reference (Some (codes "C_ibfk_1")) "a" "p" "id")) 1826 (codes "C_ibfk_1" ∷ [])
     ∷ one "t" (actions.AddForeignKey (record (reference (Some (codes "f")) "a" "p" "id") { on_delete = SetNull })) 1830 (codes "a" ∷ codes "f" ∷ [])
+    ∷ one "t" (actions.AddForeignKey (record (reference (Some (codes "f")) "A" "p" "id") { on_delete = SetNull })) 1830 (codes "A" ∷ codes "f" ∷ [])
     ∷ one "t" (actions.DropForeignKey (codes "x")) 1091 (codes "x" ∷ [])
     -- behind all actions, a column of the child's or of the parent's of another kind
     ∷ one "c" (actions.ModifyColumn (column "p" bigint_words) None) 3780 (codes "p" ∷ codes "id" ∷ codes "c_ibfk_1" ∷ [])
