@@ -1,5 +1,5 @@
 -- What answers leave of a state.
-use Rattle.std.specs.Prelude.{◌≡◌, ◌≢◌, ◌+◌, ℕ, Bool, true, false, ◌||◌, List, [], ◌∷◌, Option, Some, None, is_some, map}
+use Rattle.std.specs.Prelude.{◌≡◌, ◌≢◌, ◌+◌, ℕ, Bool, true, false, ◌||◌, List, [], ◌∷◌, Option, Some, None, is_some, map, Result, Ok, Err, OnErr}
 use Rattle.std.specs.List.{list_any}
 use Rattle.std.specs.Option.{option_map}
 use Rattle.std.proofs.Common.{sym, ap, subst, refl, arith}
@@ -64,3 +64,13 @@ outcome_there old statement is = on (outcome old.session statement) refl (decide
 pub any_mapped : (test : Change → Bool) (edits : List Edit) → list_any (λ edit. test (change_of edit)) edits ≡ list_any test (map change_of edits)
 any_mapped test [] = refl
 any_mapped test (edit ∷ edits) = ap (λ rest. test (change_of edit) || rest) (any_mapped test edits)
+
+-- ## What a failure says
+
+pub lost_still : {X F : Type 0} {P Q : Type 0} (result : Result X F) → (P → Q) → OnErr result P → OnErr result Q
+lost_still (Ok x) more lost = tt
+lost_still (Err e) more lost = more lost
+
+pub lost_anyway : {X F : Type 0} {P : Type 0} (result : Result X F) → P → OnErr result P
+lost_anyway (Ok x) is = tt
+lost_anyway (Err e) is = is

@@ -3,11 +3,12 @@ use Rattle.std.specs.Prelude.{ℕ, ◌≡◌, ◌≤◌, ◌<◌, ◌+◌, true,
 use Rattle.dd_names.specs.declared.object_name.ObjName.{ObjName}
 use Rattle.dd_errors.specs.Errors.{ErrorValue}
 use Rattle.dd_definitions.specs.declared.parts.TableParts.{TableParts}
+use Rattle.sql_ast.specs.declared.session.SessionState.{SessionState}
 use Rattle.sql_ast.specs.declared.statement.Statement.{Statement}
 use Rattle.dd_catalog.specs.Catalog.{Catalog, Table, empty_catalog}
 use Rattle.dd_catalog.specs.Valid.{Has}
-use Rattle.dd_catalog.specs.Walks.{Found}
-use Rattle.rules_outcome.specs.Choices.{Choice, catalog_behind, session_behind, takes_space, draws}
+use Rattle.dd_catalog.specs.Walks.{Found, fine}
+use Rattle.rules_outcome.specs.Choices.{Change, Changes, Choice, catalog_behind, session_behind, takes_space, draws}
 use Rattle.rules_decide.specs.Outcome.{outcome_over}
 use Rattle.dd_engine.specs.declared.history.Answer.{Answer}
 use Rattle.dd_engine.specs.declared.history.Entry.{Entry}
@@ -68,6 +69,15 @@ pub record Adds (old new : List Entry) (statement : Statement) : Type 0 where
   pub same : entry.statement ≡ statement
 
 -- ## A step
+
+-- something is changed
+abbrev pub Alters : Choice → Type 0
+Alters choice = (changes : List Change) × (session : SessionState) × (choice ≡ Changes changes session)
+
+-- a state that is there may be lost only by a statement that changes something
+abbrev pub MayLose : Option State → Statement → Type 0
+MayLose None statement = Unit {0}
+MayLose (Some state) statement = (choice : Choice) × (outcome_over state.catalog state.session statement ≡ Some (fine choice)) × Alters choice
 
 -- what is done leaves this state: its changes, and the next number one greater where it draws one that is left
 pub record Leaves (old : State) (choice : Choice) (new : State) (spaces : List ℕ) : Type 0 where

@@ -1,5 +1,5 @@
 // What a decided statement is answered, and the state that it leaves.
-ghost use Rattle.std.specs.Prelude.{◌≡◌, ◌<◌, IfOk, OnErr, None, map, true};
+ghost use Rattle.std.specs.Prelude.{◌≡◌, ◌<◌, IfOk, OnErr, None, Some, map, true};
 ghost use Rattle.std.specs.List.{list_any};
 ghost use Rattle.dd_errors.specs.Errors.{ErrorValue};
 ghost use Rattle.dd_catalog.specs.Walks.{Found, fine};
@@ -8,7 +8,7 @@ ghost use Rattle.rules_outcome.specs.declared.decided.Edit.{Edit};
 ghost use Rattle.rules_outcome.specs.Decided.{change_of, choice_of, chosen};
 ghost use Rattle.rules_decide.specs.Outcome.{DecidesIf, is_decided, outcome_over};
 ghost use Rattle.dd_engine.specs.Drawn.{IsOutAt, spaces_of};
-ghost use Rattle.dd_engine.specs.Engine.{Answered, Settles, Steps};
+ghost use Rattle.dd_engine.specs.Engine.{Alters, Answered, MayLose, Settles, Steps};
 ghost use Rattle.dd_engine.specs.Listed.{answer_size};
 ghost use Rattle.dd_engine.specs.History.{AnswersFound, choice_found, done_of, space_in};
 
@@ -39,8 +39,8 @@ struct Settled {
     state: State,
 }
 
-/// Answers a statement, and leaves the state as the answer says. For want of memory the state may be lost, and without it no
-/// statement is answered.
+/// Answers a statement, and leaves the state as the answer says. For want of memory while its changes are made the state may be
+/// lost, and without it no statement is answered.
 pub fn step(
     alloc: Global,
     state: &mut Option<State>,
@@ -48,7 +48,7 @@ pub fn step(
 ) -> Result<Told, AllocError>
     requires { is_decided statement.now ≡ true }
     ensures ok { IfOk result (λ told. Steps state.old statement.now told.answer state.new told.spaces) }
-    ensures err { OnErr result (state.new ≡ None) }
+    ensures err { OnErr result ((state.new ≡ None) × MayLose state.old statement.now) }
 {
     let Some(old) = state.take() else {
         return Err(AllocError);
@@ -63,7 +63,8 @@ pub fn step(
 
 fn answered(alloc: Global, state: State, statement: &Statement) -> Result<Settled, AllocError>
     requires { is_decided statement.now ≡ true }
-    ensures { IfOk result (λ settled. Answered state statement.now settled.answer settled.state settled.spaces) }
+    ensures answered { IfOk result (λ settled. Answered state statement.now settled.answer settled.state settled.spaces) }
+    ensures lost { OnErr result (MayLose (Some state) statement.now) }
 {
     match outcome_of(alloc, &state, statement) {
         Ok(decided) => settle(alloc, state, decided),
@@ -87,7 +88,8 @@ fn outcome_of(alloc: Global, state: &State, statement: &Statement) -> Result<Dec
 }
 
 fn settle(alloc: Global, state: State, decided: Decided) -> Result<Settled, AllocError>
-    ensures { IfOk result (λ settled. Settles (fine (chosen decided)) state settled.answer settled.state settled.spaces) }
+    ensures settles { IfOk result (λ settled. Settles (fine (chosen decided)) state settled.answer settled.state settled.spaces) }
+    ensures lost { OnErr result (Alters (chosen decided)) }
 {
     match decided {
         Decided::Edits(edits) => settle_edits(alloc, state, edits),

@@ -1,5 +1,6 @@
 //! A run by the words of the command line, and how it ends. `main` has no other way to end than by what `of_run` gives.
-ghost use Rattle.std.specs.Prelude.{◌≡◌, IfOk, map, string_bytes};
+ghost use Rattle.std.specs.Prelude.{◌≡◌, ◌≢◌, IfErr, IfOk, map, string_bytes};
+ghost use Rattle.std.specs.Io.KnownBytes.{IsAtEnd};
 ghost use Rattle.std.specs.Option.{option_map, unwrap_or};
 ghost use Rattle.std.specs.Process.{exit_status};
 ghost use Rattle.dd_run.specs.Complaints.{code_of, complaint_of};
@@ -24,7 +25,9 @@ impl Ended {
         rt: &R,
         source: &mut S,
         sink: &mut K,
-    ) -> Ended {
+    ) -> Ended
+        ensures read { result.status ≡ Status.Ok → IsAtEnd (S.left source.new) }
+    {
         let status = match arguments(rt) {
             Ok(args) => run_on(rt.alloc(), &args, source, sink),
             Err(status) => status,
@@ -47,7 +50,9 @@ impl Termination for Ended {
 }
 
 // The words behind the program's name. A word that isn't UTF-8 asks for nothing that the program does.
-fn arguments<R: Env + AllocGlobal>(rt: &R) -> Result<Vec<String>, Status> {
+fn arguments<R: Env + AllocGlobal>(rt: &R) -> Result<Vec<String>, Status>
+    ensures { IfErr result (λ status. status ≢ Status.Ok) }
+{
     let args = match env::args(rt) {
         Ok(args) => args,
         Err(error) if error.kind() == io::ErrorKind::OutOfMemory => return Err(Status::Memory),
@@ -61,7 +66,9 @@ fn run_on<S: Source, K: Sink>(
     args: &[String],
     source: &mut S,
     sink: &mut K,
-) -> Status {
+) -> Status
+    ensures read { result ≡ Status.Ok → IsAtEnd (S.left source.new) }
+{
     match as_words(alloc, args) {
         Ok(words) => ddrun(alloc, &words, source, sink).status,
         Err(AllocError) => Status::Memory,
