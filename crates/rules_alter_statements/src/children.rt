@@ -57,11 +57,7 @@ fn one_child<L: Lookup>(children: &mut List<Child>, name: &ObjName, look: &L) ->
     Ok(())
 }
 
-fn add_child(
-    children: &mut List<Child>,
-    name: &ObjName,
-    object: &Object,
-) -> Result<(), AllocError>
+fn add_child(children: &mut List<Child>, name: &ObjName, object: &Object) -> Result<(), AllocError>
     ensures { OnOk result (children.new ≡ children.old ++ child_seen name.now (sight object.now)) }
 {
     match object {

@@ -116,11 +116,7 @@ pub fn create_index<L: Lookup>(
     alter_table(alloc, session, table, &[action], look)
 }
 
-fn index_words(
-    is_unique: bool,
-    name: &Name,
-    columns: &List<Name>,
-) -> Result<KeyWords, AllocError>
+fn index_words(is_unique: bool, name: &Name, columns: &List<Name>) -> Result<KeyWords, AllocError>
     ensures { IfOk result (λ words. words ≡ index_words is_unique name.now columns.now) }
 {
     match both(name.copy(), columns.copy()) {
