@@ -1,0 +1,4 @@
+pub mod Family
+pub mod Asked
+pub mod Schemas
+pub mod Tables
