@@ -1,0 +1,44 @@
+ghost use Rattle.std.specs.Prelude.{◌≡◌, codes, OnOk};
+ghost use Rattle.serde_json.specs.Data.{put, string, no_members};
+ghost use Rattle.serde_json.specs.View.{view, members_view};
+ghost use Rattle.show_text.specs.Columns.{type_text};
+ghost use Rattle.sdi_text.specs.Values.{column_value, column_members};
+
+use crate::members::{Members, put_default, put_flag, put_text};
+use crate::part::Part;
+use crate::words::type_text;
+use dd_definitions::ColumnDef;
+use serde_json::{Map, Value};
+use sql_types::ColumnType;
+use std::alloc::{AllocError, Global};
+
+impl Part for ColumnDef {
+    ghost value_of = { column_value };
+
+    fn value(&self, alloc: Global) -> Result<Value, AllocError> {
+        let mut members = Map::new(alloc);
+        put_column(alloc, &mut members, self)?;
+        Ok(Value::Object(members))
+    }
+}
+
+fn put_column(
+    alloc: Global,
+    members: &mut Members,
+    column: &ColumnDef,
+) -> Result<(), AllocError>
+    ensures { members_view members.old.entries ≡ no_members → OnOk result (members_view members.new.entries ≡ column_members column.now) }
+{
+    put_flag(alloc, members, "auto", column.auto)?;
+    put_default(alloc, members, "default", &column.default)?;
+    put_text(alloc, members, "name", column.name.as_str())?;
+    put_flag(alloc, members, "nullable", column.nullable)?;
+    put_type(alloc, members, column.kind)
+}
+
+fn put_type(alloc: Global, members: &mut Members, kind: ColumnType) -> Result<(), AllocError>
+    ensures { OnOk result (members_view members.new.entries ≡ put (codes "type") (string (type_text kind)) (members_view members.old.entries)) }
+{
+    let text = type_text(alloc, kind)?;
+    put_text(alloc, members, "type", text.as_str())
+}
