@@ -58,9 +58,10 @@ default_back n (Some text) = string_back n text
 
 one_more_item : (n : ℕ) (d : Data) (ds : Items) → Back n d → ItemsBack n ds → ItemsBack n (item d ds)
 one_more_item n d ds b more = record {
-    same = ap (option_and_then (λ x. option_map (item x) (of_items (items_outline ds)))) b.same ∙ ap (option_map (item d)) more.same;
-    numbers = (b.numbers, more.numbers);
-    shallow = let one = b.shallow in let others = more.shallow in omega arith }
+  same = ap (option_and_then (λ x. option_map (item x) (of_items (items_outline ds)))) b.same ∙ ap (option_map (item d)) more.same;
+  numbers = (b.numbers, more.numbers);
+  shallow = let one = b.shallow in let others = more.shallow in omega arith;
+}
 
 items_back : {X : Type 0} (n : ℕ) (value_of : X → Data) → ((x : X) → Back n (value_of x)) → (xs : List X) → ItemsBack n (items_of (map value_of xs))
 items_back n value_of each [] = record { same = refl; numbers = tt; shallow = omega arith }
@@ -76,9 +77,10 @@ none_left n found = record { same = refl; numbers = tt; shallow = omega arith }
 
 one_more : (n : ℕ) (k : List ℕ) (d : Data) (ms found all : Members) → Back n d → MembersBack n ms (put k d found) all → MembersBack n (member k d ms) found all
 one_more n k d ms found all b more = record {
-    same = ap (option_and_then (λ x. of_members (members_outline ms) (put k x found))) b.same ∙ more.same;
-    numbers = (b.numbers, more.numbers);
-    shallow = let one = b.shallow in let others = more.shallow in omega arith }
+  same = ap (option_and_then (λ x. of_members (members_outline ms) (put k x found))) b.same ∙ more.same;
+  numbers = (b.numbers, more.numbers);
+  shallow = let one = b.shallow in let others = more.shallow in omega arith;
+}
 
 object_back : (n : ℕ) (ms : Members) → MembersBack n ms no_members ms → Back (suc n) (object ms)
 object_back n ms b = record { same = ap (option_map object) b.same; numbers = b.numbers; shallow = let inner = b.shallow in omega arith }

@@ -22,11 +22,7 @@ impl Part for ColumnDef {
     }
 }
 
-fn put_column(
-    alloc: Global,
-    members: &mut Members,
-    column: &ColumnDef,
-) -> Result<(), AllocError>
+fn put_column(alloc: Global, members: &mut Members, column: &ColumnDef) -> Result<(), AllocError>
     ensures { members_view members.old.entries ≡ no_members → OnOk result (members_view members.new.entries ≡ column_members column.now) }
 {
     put_flag(alloc, members, "auto", column.auto)?;

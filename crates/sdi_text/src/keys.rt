@@ -49,7 +49,12 @@ fn put_foreign_key(
     put_text(alloc, members, "name", key.name.as_str())?;
     put_text(alloc, members, "on_delete", rule_name(key.on_delete))?;
     put_text(alloc, members, "on_update", rule_name(key.on_update))?;
-    put_parts(alloc, members, "parent_columns", key.parent_columns.as_slice())?;
+    put_parts(
+        alloc,
+        members,
+        "parent_columns",
+        key.parent_columns.as_slice(),
+    )?;
     put_text(alloc, members, "parent_name", key.parent.name.as_str())?;
     put_text(alloc, members, "parent_schema", key.parent.schema.as_str())
 }

@@ -1,5 +1,5 @@
 ghost use Rattle.std.specs.Prelude.{◌≡◌, OnOk};
-ghost use Rattle.serde_json.specs.Data.{Data, put, string, boolean, number, unsigned};
+ghost use Rattle.serde_json.specs.Data.{Data, put, string, boolean, number as json_number, unsigned};
 ghost use Rattle.serde_json.specs.View.{view, members_view};
 ghost use Rattle.sdi_text.specs.Values.{array_of, default_value};
 
@@ -43,7 +43,7 @@ pub(crate) fn put_number(
     key: &str,
     number: u32,
 ) -> Result<(), AllocError>
-    ensures { OnOk result (members_view members.new.entries ≡ put key.now (number (unsigned number)) (members_view members.old.entries)) }
+    ensures { OnOk result (members_view members.new.entries ≡ put key.now (json_number (unsigned number)) (members_view members.old.entries)) }
 {
     put(members, alloc, key, Value::from(number))
 }

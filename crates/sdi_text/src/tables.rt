@@ -31,7 +31,12 @@ fn put_table(
 {
     put_parts(alloc, members, "columns", parts.columns.as_slice())?;
     put_number(alloc, members, "dd_version", 1)?;
-    put_parts(alloc, members, "foreign_keys", parts.foreign_keys.as_slice())?;
+    put_parts(
+        alloc,
+        members,
+        "foreign_keys",
+        parts.foreign_keys.as_slice(),
+    )?;
     put_parts(alloc, members, "indexes", parts.indexes.as_slice())?;
     put_text(alloc, members, "name", parts.name.name.as_str())?;
     put_text(alloc, members, "schema", parts.name.schema.as_str())?;
