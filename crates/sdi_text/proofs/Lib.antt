@@ -1,2 +1,5 @@
 mod Floats
 mod Back
+mod Names
+mod Suffix
+mod Parts

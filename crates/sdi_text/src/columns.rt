@@ -2,8 +2,11 @@ ghost use Rattle.std.specs.Prelude.{◌≡◌, codes, OnOk};
 ghost use Rattle.serde_json.specs.Data.{put, string, no_members};
 ghost use Rattle.serde_json.specs.View.{view, members_view};
 ghost use Rattle.show_text.specs.Columns.{type_text};
+ghost use Rattle.sdi_text.specs.Reading.{IsHeldColumn};
 ghost use Rattle.sdi_text.specs.Values.{column_value, column_members};
 
+use crate::fault::{SdiFault, both};
+use crate::found::{default_at, flag_at, name_at, type_at};
 use crate::members::{Members, put_default, put_flag, put_text};
 use crate::part::Part;
 use crate::words::type_text;
@@ -15,10 +18,27 @@ use std::alloc::{AllocError, Global};
 impl Part for ColumnDef {
     ghost value_of = { column_value };
 
+    ghost IsHeld = { IsHeldColumn };
+
     fn value(&self, alloc: Global) -> Result<Value, AllocError> {
         let mut members = Map::new(alloc);
         put_column(alloc, &mut members, self)?;
         Ok(Value::Object(members))
+    }
+
+    fn read(alloc: Global, value: &Value) -> Result<ColumnDef, SdiFault> {
+        let texts = both(name_at(alloc, value, "name"), default_at(alloc, value, "default"));
+        let flags = both(flag_at(value, "auto"), flag_at(value, "nullable"));
+        match both(both(texts, flags), type_at(value, "type")) {
+            Ok((((name, default), (auto, nullable)), kind)) => Ok(ColumnDef {
+                name,
+                kind,
+                nullable,
+                default,
+                auto,
+            }),
+            Err(fault) => Err(fault),
+        }
     }
 }
 

@@ -2,11 +2,17 @@
 #![tactic(auto)]
 
 mod columns;
+mod fault;
 mod files;
+mod found;
 mod keys;
 mod members;
 mod part;
+mod reading;
 mod tables;
+mod type_words;
 mod words;
 
+pub use fault::SdiFault;
 pub use files::{file_bytes, sdi};
+pub use reading::read_sdi;
