@@ -3,3 +3,4 @@ mod Back
 mod Names
 mod Suffix
 mod Parts
+mod Items

@@ -1,6 +1,5 @@
 -- What is read of an SDI.
-use Rattle.std.specs.Prelude.{◌≡◌, List, ◌×◌, ℕ, ◌<◌, ◌^◌, Bool, true, MatchResult, Result, Option, Some, None, ⊤}
-use Rattle.std.specs.Str.{IsUtf8}
+use Rattle.std.specs.Prelude.{◌≡◌, ◌<◌, ◌^◌, MatchResult, Result, ⊤}
 use Rattle.std.specs.List.{AllByRecursion}
 use Rattle.dd_names.specs.Names.{IsName}
 use Rattle.sql_types.specs.declared.choices.ColumnType.{ColumnType}
@@ -9,7 +8,6 @@ use Rattle.dd_definitions.specs.declared.columns.ColumnDef.{ColumnDef}
 use Rattle.dd_definitions.specs.declared.indexes.IndexDef.{IndexDef}
 use Rattle.dd_definitions.specs.declared.foreign_keys.ForeignKeyDef.{ForeignKeyDef}
 use Rattle.dd_definitions.specs.declared.parts.TableParts.{TableParts}
-use Rattle.dd_definitions.specs.WellFormed.{is_well_formed}
 use Rattle.sdi_text.specs.declared.fault.SdiFault.{SdiFault}
 use Rattle.sdi_text.specs.declared.fault.SdiFault.TheVariants.{Memory}
 

@@ -13,9 +13,13 @@ sdi_bytes parts space = compact_text (table_value parts space)
 abbrev pub magic : List ℕ
 magic = codes "dd tablespace 1" ++ 10 ∷ []
 
--- 64 bytes: 16 that say what the file is, the tablespace's number, four zeros, the length of the SDI, and 32 zeros
+-- four zeros, the length of the SDI, and 32 zeros
+abbrev pub length_bytes : ℕ → List ℕ
+length_bytes len = replicate 4 0 ++ (to_be_bytes w64 len ++ replicate 32 0)
+
+-- 64 bytes: 16 that say what the file is, the tablespace's number, and the length of the SDI with zeros around it
 abbrev pub header_bytes : ℕ → ℕ → List ℕ
-header_bytes space len = magic ++ (to_be_bytes w32 space ++ (replicate 4 0 ++ (to_be_bytes w64 len ++ replicate 32 0)))
+header_bytes space len = magic ++ (to_be_bytes w32 space ++ length_bytes len)
 
 -- the header, then the SDI
 abbrev pub file_bytes : TableParts → ℕ → List ℕ

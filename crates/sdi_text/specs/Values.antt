@@ -1,8 +1,9 @@
 -- The value that an SDI is: a table with its tablespace's number. The members of each object are in byte order of their
 -- keys.
 use Rattle.std.specs.Prelude.{ℕ, List, Option, Some, None, codes, map}
-use Rattle.serde_json.specs.Data.{Data, Members, null, boolean, number, unsigned, string, array, object, member, no_members}
+use Rattle.serde_json.specs.Data.{Data, Members, null, boolean, number, unsigned, string, array, object, member, no_members, put}
 use Rattle.serde_json.specs.View.{items_of}
+use Rattle.dd_names.specs.declared.object_name.ObjName.{ObjName}
 use Rattle.dd_definitions.specs.declared.columns.ColumnDef.{ColumnDef}
 use Rattle.dd_definitions.specs.declared.indexes.IndexDef.{IndexDef}
 use Rattle.dd_definitions.specs.declared.foreign_keys.ForeignKeyDef.{ForeignKeyDef}
@@ -55,3 +56,27 @@ table_members parts space =
 
 abbrev pub table_value : TableParts → ℕ → Data
 table_value parts space = object (table_members parts space)
+
+-- ---- for private clauses: some of the members, put among others
+
+abbrev pub front_put : ColumnDef → Members → Members
+front_put column old = put (codes "name") (string column.name) (put (codes "default") (default_value column.default) (put (codes "auto") (boolean column.auto) old))
+
+abbrev pub child_put : ForeignKeyDef → Members → Members
+child_put key old = put (codes "name") (string key.name) (put (codes "columns") (array_of string key.columns) old)
+
+abbrev pub rules_put : ForeignKeyDef → Members → Members
+rules_put key old = put (codes "on_update") (string (rule_name key.on_update)) (put (codes "on_delete") (string (rule_name key.on_delete)) old)
+
+abbrev pub parent_put : ForeignKeyDef → Members → Members
+parent_put key old =
+    put (codes "parent_schema") (string key.parent.schema) (put (codes "parent_name") (string key.parent.name)
+    (put (codes "parent_columns") (array_of string key.parent_columns) old))
+
+abbrev pub lists_put : TableParts → Members → Members
+lists_put parts old =
+    put (codes "indexes") (array_of index_value parts.indexes) (put (codes "foreign_keys") (array_of foreign_key_value parts.foreign_keys)
+    (put (codes "columns") (array_of column_value parts.columns) old))
+
+abbrev pub name_put : ObjName → Members → Members
+name_put name old = put (codes "schema") (string name.schema) (put (codes "name") (string name.name) old)

@@ -3,7 +3,7 @@ ghost use Rattle.serde_json.specs.Data.{put, string, no_members};
 ghost use Rattle.serde_json.specs.View.{view, members_view};
 ghost use Rattle.show_text.specs.Columns.{type_text};
 ghost use Rattle.sdi_text.specs.Reading.{IsHeldColumn};
-ghost use Rattle.sdi_text.specs.Values.{column_value, column_members};
+ghost use Rattle.sdi_text.specs.Values.{column_value, column_members, front_put};
 
 use crate::fault::{SdiFault, both};
 use crate::found::{default_at, flag_at, name_at, type_at};
@@ -45,11 +45,17 @@ impl Part for ColumnDef {
 fn put_column(alloc: Global, members: &mut Members, column: &ColumnDef) -> Result<(), AllocError>
     ensures { members_view members.old.entries ≡ no_members → OnOk result (members_view members.new.entries ≡ column_members column.now) }
 {
-    put_flag(alloc, members, "auto", column.auto)?;
-    put_default(alloc, members, "default", &column.default)?;
-    put_text(alloc, members, "name", column.name.as_str())?;
+    put_front(alloc, members, column)?;
     put_flag(alloc, members, "nullable", column.nullable)?;
     put_type(alloc, members, column.kind)
+}
+
+fn put_front(alloc: Global, members: &mut Members, column: &ColumnDef) -> Result<(), AllocError>
+    ensures { OnOk result (members_view members.new.entries ≡ front_put column.now (members_view members.old.entries)) }
+{
+    put_flag(alloc, members, "auto", column.auto)?;
+    put_default(alloc, members, "default", &column.default)?;
+    put_text(alloc, members, "name", column.name.as_str())
 }
 
 fn put_type(alloc: Global, members: &mut Members, kind: ColumnType) -> Result<(), AllocError>

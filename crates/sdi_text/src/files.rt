@@ -1,5 +1,5 @@
 ghost use Rattle.std.specs.Prelude.{◌≡◌, ◌++◌, length, IfOk, OnOk};
-ghost use Rattle.sdi_text.specs.Sdi.{sdi_bytes, header_bytes, file_bytes};
+ghost use Rattle.sdi_text.specs.Sdi.{sdi_bytes, header_bytes, length_bytes, file_bytes};
 
 use crate::tables::table_value;
 use dd_definitions::TableDef;
@@ -39,6 +39,12 @@ fn push_header(bytes: &mut Vec<u8>, space: u32, len: u64) -> Result<(), AllocErr
 {
     bytes.extend_from_slice(&MAGIC)?;
     bytes.extend_from_slice(&space.to_be_bytes())?;
+    push_length(bytes, len)
+}
+
+fn push_length(bytes: &mut Vec<u8>, len: u64) -> Result<(), AllocError>
+    ensures { OnOk result (bytes.new.items ≡ bytes.old.items ++ length_bytes len) }
+{
     bytes.extend_from_slice(&[0; 4])?;
     bytes.extend_from_slice(&len.to_be_bytes())?;
     bytes.extend_from_slice(&[0; 32])

@@ -5,7 +5,7 @@ ghost use Rattle.serde_json.specs.Find.{get};
 ghost use Rattle.dd_names.specs.Names.{IsName};
 ghost use Rattle.dd_names.specs.declared.object_name.ObjName.{ObjName};
 ghost use Rattle.sdi_text.specs.Reading.{Reads, IsHeldIndex, IsHeldKey};
-ghost use Rattle.sdi_text.specs.Values.{index_value, index_members, foreign_key_value, foreign_key_members};
+ghost use Rattle.sdi_text.specs.Values.{index_value, index_members, foreign_key_value, foreign_key_members, child_put, rules_put, parent_put};
 
 use crate::fault::{SdiFault, both};
 use crate::found::{class_at, name_at, parts_at, rule_at};
@@ -99,16 +99,29 @@ fn put_foreign_key(
 ) -> Result<(), AllocError>
     ensures { members_view members.old.entries ≡ no_members → OnOk result (members_view members.new.entries ≡ foreign_key_members key.now) }
 {
+    put_child(alloc, members, key)?;
+    put_rules(alloc, members, key)?;
+    put_parent(alloc, members, key)
+}
+
+fn put_child(alloc: Global, members: &mut Members, key: &ForeignKeyDef) -> Result<(), AllocError>
+    ensures { OnOk result (members_view members.new.entries ≡ child_put key.now (members_view members.old.entries)) }
+{
     put_parts(alloc, members, "columns", key.columns.as_slice())?;
-    put_text(alloc, members, "name", key.name.as_str())?;
+    put_text(alloc, members, "name", key.name.as_str())
+}
+
+fn put_rules(alloc: Global, members: &mut Members, key: &ForeignKeyDef) -> Result<(), AllocError>
+    ensures { OnOk result (members_view members.new.entries ≡ rules_put key.now (members_view members.old.entries)) }
+{
     put_text(alloc, members, "on_delete", rule_name(key.on_delete))?;
-    put_text(alloc, members, "on_update", rule_name(key.on_update))?;
-    put_parts(
-        alloc,
-        members,
-        "parent_columns",
-        key.parent_columns.as_slice(),
-    )?;
+    put_text(alloc, members, "on_update", rule_name(key.on_update))
+}
+
+fn put_parent(alloc: Global, members: &mut Members, key: &ForeignKeyDef) -> Result<(), AllocError>
+    ensures { OnOk result (members_view members.new.entries ≡ parent_put key.now (members_view members.old.entries)) }
+{
+    put_parts(alloc, members, "parent_columns", key.parent_columns.as_slice())?;
     put_text(alloc, members, "parent_name", key.parent.name.as_str())?;
     put_text(alloc, members, "parent_schema", key.parent.schema.as_str())
 }
