@@ -1,6 +1,10 @@
 -- The parts that are left to read.
-use Rattle.std.proofs.Common.{◌≡◌, List, [], ◌∷◌, ◌++◌, map, refl, sym, ap, ◌∙◌, append_assoc, append-nil}
+use Rattle.std.proofs.Common.{◌≡◌, List, [], ◌∷◌, ◌++◌, map, length, refl, sym, ap, ◌∙◌, append_assoc, append-nil, arith}
 use Rattle.std.specs.List.{AllByRecursion}
+
+pub is_empty : {V : Type 0} (left : List V) → length left ≡ 0 → left ≡ []
+is_empty [] none = refl
+is_empty (v ∷ vs) none = absurd (omega arith)
 
 module _ {X Y V : Type 0} (IsHeld : X → Type 0) (value_of : X → Y) (view : V → Y) where
   -- these parts are still to come, and what is left has their values

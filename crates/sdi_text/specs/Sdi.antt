@@ -14,7 +14,7 @@ abbrev pub magic : List ℕ
 magic = codes "dd tablespace 1" ++ 10 ∷ []
 
 -- four zeros, the length of the SDI, and 32 zeros
-abbrev pub length_bytes : ℕ → List ℕ
+unfoldable pub length_bytes : ℕ → List ℕ
 length_bytes len = replicate 4 0 ++ (to_be_bytes w64 len ++ replicate 32 0)
 
 -- 64 bytes: 16 that say what the file is, the tablespace's number, and the length of the SDI with zeros around it

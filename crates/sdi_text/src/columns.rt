@@ -27,7 +27,10 @@ impl Part for ColumnDef {
     }
 
     fn read(alloc: Global, value: &Value) -> Result<ColumnDef, SdiFault> {
-        let texts = both(name_at(alloc, value, "name"), default_at(alloc, value, "default"));
+        let texts = both(
+            name_at(alloc, value, "name"),
+            default_at(alloc, value, "default"),
+        );
         let flags = both(flag_at(value, "auto"), flag_at(value, "nullable"));
         match both(both(texts, flags), type_at(value, "type")) {
             Ok((((name, default), (auto, nullable)), kind)) => Ok(ColumnDef {

@@ -42,6 +42,7 @@ fn push_header(bytes: &mut Vec<u8>, space: u32, len: u64) -> Result<(), AllocErr
     push_length(bytes, len)
 }
 
+#[tactic(auto, unfolding(crate::specs::Sdi::length_bytes))]
 fn push_length(bytes: &mut Vec<u8>, len: u64) -> Result<(), AllocError>
     ensures { OnOk result (bytes.new.items ≡ bytes.old.items ++ length_bytes len) }
 {

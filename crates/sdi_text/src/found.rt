@@ -79,11 +79,7 @@ pub(crate) fn number_at(value: &Value, key: &str) -> Result<u32, SdiFault>
 }
 
 /// The default at a key.
-pub(crate) fn default_at(
-    alloc: Global,
-    value: &Value,
-    key: &str,
-) -> Result<Option<Text>, SdiFault>
+pub(crate) fn default_at(alloc: Global, value: &Value, key: &str) -> Result<Option<Text>, SdiFault>
     ensures { (default : Option (List ℕ)) → get key.now (view value.now) ≡ Some (default_value default) → Reads default result }
 {
     match value.get(key) {

@@ -62,9 +62,15 @@ impl Part for ForeignKeyDef {
     }
 
     fn read(alloc: Global, value: &Value) -> Result<ForeignKeyDef, SdiFault> {
-        let child = both(name_at(alloc, value, "name"), parts_at(alloc, value, "columns"));
+        let child = both(
+            name_at(alloc, value, "name"),
+            parts_at(alloc, value, "columns"),
+        );
         let rules = both(rule_at(value, "on_delete"), rule_at(value, "on_update"));
-        let parent = both(parent_of(alloc, value), parts_at(alloc, value, "parent_columns"));
+        let parent = both(
+            parent_of(alloc, value),
+            parts_at(alloc, value, "parent_columns"),
+        );
         match both(both(child, parent), rules) {
             Ok((((name, columns), (parent, parent_columns)), (on_delete, on_update))) => {
                 Ok(ForeignKeyDef {
@@ -121,7 +127,12 @@ fn put_rules(alloc: Global, members: &mut Members, key: &ForeignKeyDef) -> Resul
 fn put_parent(alloc: Global, members: &mut Members, key: &ForeignKeyDef) -> Result<(), AllocError>
     ensures { OnOk result (members_view members.new.entries ≡ parent_put key.now (members_view members.old.entries)) }
 {
-    put_parts(alloc, members, "parent_columns", key.parent_columns.as_slice())?;
+    put_parts(
+        alloc,
+        members,
+        "parent_columns",
+        key.parent_columns.as_slice(),
+    )?;
     put_text(alloc, members, "parent_name", key.parent.name.as_str())?;
     put_text(alloc, members, "parent_schema", key.parent.schema.as_str())
 }

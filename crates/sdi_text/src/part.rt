@@ -61,7 +61,7 @@ pub(crate) fn parts<P: Part + Drop>(alloc: Global, values: &[Value]) -> Result<L
 {
     let mut list = List::new(alloc);
     let mut rest = values;
-    'values: while let [value, others @ ..] = rest {
+    'values: while let Some((value, others)) = rest.split_first() {
         add(alloc, &mut list, value)?;
         rest = others;
     }

@@ -40,7 +40,12 @@ fn put_lists(alloc: Global, members: &mut Members, parts: &TableParts) -> Result
     ensures { OnOk result (members_view members.new.entries ≡ lists_put parts.now (members_view members.old.entries)) }
 {
     put_parts(alloc, members, "columns", parts.columns.as_slice())?;
-    put_parts(alloc, members, "foreign_keys", parts.foreign_keys.as_slice())?;
+    put_parts(
+        alloc,
+        members,
+        "foreign_keys",
+        parts.foreign_keys.as_slice(),
+    )?;
     put_parts(alloc, members, "indexes", parts.indexes.as_slice())
 }
 

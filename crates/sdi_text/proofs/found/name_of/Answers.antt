@@ -1,5 +1,3 @@
-use Rattle.std.proofs.Common.{sym, subst}
-use Rattle.dd_names.specs.Names.{IsName}
 use Rattle.sdi_text.proofs.Names.{read_refused}
 use Rattle.sdi_text.proofs.found.name_of.Goals as goal
 

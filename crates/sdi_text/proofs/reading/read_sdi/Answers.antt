@@ -1,4 +1,5 @@
-use Rattle.std.proofs.Common.{◌≡◌, ◌∙◌, ◌^◌, ◌<◌, Err, IsSome, sym, ap, subst, arith}
+use Rattle.std.proofs.Common.{◌∙◌, Err, IsSome, refl, sym, ap, subst, arith}
+use Rattle.serde_json.specs.declared.value.Value.{Value}
 use Rattle.serde_json.specs.Read.{read}
 use Rattle.serde_json.specs.View.{view}
 use Rattle.serde_json.proofs.Refusals.{IsMemory-from_err}
@@ -15,4 +16,4 @@ returns-in-Ok-clause-exact c = λ parts space held formed small utf8 is.
 pub returns-in-Err-clause-exact : goal.returns-in-Err-clause-exact
 returns-in-Err-clause-exact c = λ parts space held formed small utf8 is.
     let found = ap read is ∙ sdi_reads parts space (omega arith) in
-    c.of_json.ensures (IsMemory-from_err (Err c.in-Err.error) (read c.args.bytes.now) (λ not. c.in-Err.ensures.err not utf8) (subst IsSome (sym found) tt))
+    c.of_json.ensures (IsMemory-from_err {T = Value} (Err c.in-Err.error) (read c.args.bytes.now) (λ not. c.in-Err.ensures.err not utf8) (subst IsSome (sym found) refl))

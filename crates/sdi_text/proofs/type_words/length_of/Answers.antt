@@ -1,4 +1,4 @@
-use Rattle.std.proofs.Common.{◌≡◌, ℕ, [], ◌∷◌, decimal}
+use Rattle.std.proofs.Common.{[], ◌∷◌, decimal}
 use Rattle.std.proofs.lemmas.Slice.Eq.{strip_suffix_is}
 use Rattle.std.proofs.lemmas.Bool.Decides.{Decides-eqb}
 use Rattle.sdi_text.proofs.Suffix.{never_bare, is_front}

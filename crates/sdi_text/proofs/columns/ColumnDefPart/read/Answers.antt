@@ -1,9 +1,5 @@
-use Rattle.std.proofs.Common.{◌≡◌, Option, Some, Ok, List, ℕ, Bool, codes, ap, rules}
+use Rattle.std.proofs.Common.{codes, ap}
 use Rattle.serde_json.specs.Find.{get}
-use Rattle.serde_json.specs.View.{view}
-use Rattle.sdi_text.specs.Values.{column_value}
-use Rattle.sdi_text.specs.Reading.{Reads, IsHeldColumn}
-use Rattle.dd_definitions.specs.declared.columns.ColumnDef.{ColumnDef}
 use Rattle.sdi_text.proofs.columns.ColumnDefPart.read.Goals as goal
 
 pub returns-in-Ok : goal.returns-in-Ok

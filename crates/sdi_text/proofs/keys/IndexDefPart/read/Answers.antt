@@ -1,4 +1,4 @@
-use Rattle.std.proofs.Common.{◌≡◌, codes, ap}
+use Rattle.std.proofs.Common.{codes, ap}
 use Rattle.serde_json.specs.Find.{get}
 use Rattle.sdi_text.proofs.keys.IndexDefPart.read.Goals as goal
 
