@@ -1,0 +1,6 @@
+mod Floats
+mod Back
+mod Names
+mod Suffix
+mod Parts
+mod Items

@@ -1,0 +1,5 @@
+pub mod Words
+pub mod Values
+pub mod Sdi
+pub mod Reading
+pub mod Types
