@@ -1,0 +1,4 @@
+pub mod Coded
+pub mod Footprints
+pub mod Plans
+pub mod Steps
