@@ -78,9 +78,9 @@ kept_fits types.Date text kept is = cc
 kept_fits types.DateTime text kept is = cc
 
 -- a default that is kept fits the type, and an AUTO_INCREMENT column has none
-record IsDefault (auto : Bool) (kind : ColumnType) (kept : Option (List ℕ)) : Type 0 where
-  fitting : is_fitting_default kind kept ≡ true
-  absent : auto ≡ true → is_none kept ≡ true
+pub record IsDefault (auto : Bool) (kind : ColumnType) (kept : Option (List ℕ)) : Type 0 where
+  pub fitting : is_fitting_default kind kept ≡ true
+  pub absent : auto ≡ true → is_none kept ≡ true
 
 no_default : (auto : Bool) (kind : ColumnType) (kept : Option (List ℕ)) → None ≡ kept → IsDefault auto kind kept
 no_default auto kind kept is = subst (λ k. IsDefault auto kind k) is (record { fitting = refl; absent = λ _. refl })
@@ -91,7 +91,7 @@ unless_is look auto name kind text None kept by is = cc
 unless_is look true name kind text (Some t) kept by is = cc
 unless_is look false name kind text (Some t) kept by is = subst (λ k. IsDefault false kind k) (fine_is is) (record { fitting = kept_fits kind text t by; absent = λ wrong. cc })
 
-default_is : (look : Look) (column : ColumnWords) (kind : ColumnType) (default : Option Literal) (kept : Option (List ℕ)) → run look (kept_default column kind default) ≡ fine kept → IsDefault column.auto kind kept
+pub default_is : (look : Look) (column : ColumnWords) (kind : ColumnType) (default : Option Literal) (kept : Option (List ℕ)) → run look (kept_default column kind default) ≡ fine kept → IsDefault column.auto kind kept
 unfolding kept_default
 default_is look column kind None kept is = no_default column.auto kind kept (fine_is is)
 default_is look column kind (Some literals.Null) kept is =

@@ -1,10 +1,9 @@
 -- Each index that the rules take is fit beside the table.
-use Rattle.std.proofs.Common.{◌≡◌, ℕ, ◌+◌, ◌<◌, ◌≤◌, ◌^◌, Bool, true, false, ◌&&◌, not, cond, List, [], length, nat_lt, Option, Some, None, refl, ◌∙◌, ap, subst, arith}
+use Rattle.std.proofs.Common.{◌≡◌, ℕ, ◌≤◌, Bool, true, false, ◌&&◌, not, cond, List, [], length, nat_lt, Option, Some, None, refl, ◌∙◌, ap, subst, arith}
 use Rattle.std.specs.List.{list_any}
 use Rattle.std.specs.Str.{bytes_eq}
 use Rattle.std.proofs.lemmas.Bool.Decides.{nat_tests}
-use Rattle.dd_names.specs.Names.{same, name_fault}
-use Rattle.dd_names.specs.declared.name.NameFault.{NameFault}
+use Rattle.dd_names.specs.Names.{same}
 use Rattle.sql_types.specs.declared.words.KeyWords.{KeyWords}
 use Rattle.dd_definitions.specs.Indexes.{is_primary, is_primary_class, primary_name, is_well_named}
 use Rattle.dd_definitions.specs.declared.indexes.IndexDef.{IndexDef}
@@ -12,11 +11,11 @@ use Rattle.dd_definitions.specs.declared.parts.TableParts.{TableParts}
 use Rattle.dd_catalog.specs.Asked.{bind_fine, fine_is}
 use Rattle.dd_catalog.specs.Walks.{fine, run, done, refuse, refuse_if}
 use Rattle.dd_catalog.specs.WalkLaws.{Look}
-use Rattle.rules_elements.specs.Keys.{key_columns, has_index_named, is_taken, free_name, base_name, name_unless, given_name, allowed_name, key_name, key_of}
+use Rattle.rules_elements.specs.Keys.{key_columns, has_index_named, is_taken, base_name, given_name, allowed_name, key_name, key_of}
 use Rattle.rules_refusals.specs.Refusals.{multiple_pri_key, too_many_key_parts, wrong_name_for_index, dup_keyname}
 use Rattle.rules_elements_laws.specs.Indexes.{IsIndexFit}
 use Rattle.rules_elements_laws.proofs.ColumnsFit.{allowed}
-use Rattle.rules_elements_laws.proofs.FreeNames.{free_is_free}
+use Rattle.rules_elements_laws.proofs.FreeNames.{made_is_free}
 use Rattle.rules_elements_laws.proofs.Spelled.{equal_to_itself, neither, AreSpelled, all_spelled}
 
 -- ## The name
@@ -30,23 +29,17 @@ free_fits parts name free =
     let tests = neither (has_index_named parts.indexes name) (same name primary_name) free in
     record { named = ap not tests.1; free = λ _. tests.0 }
 
-made_fits : (look : Look) (parts : TableParts) (made name : List ℕ) (fault : Option NameFault) → is_taken parts.indexes made ≡ false → run look (name_unless made fault) ≡ fine name → IsNameFit parts false name
-made_fits look parts made name None free is = subst (IsNameFit parts false) (fine_is is) (free_fits parts made free)
-made_fits look parts made name (Some fault) free is = cc
-
-name_fits : (look : Look) (parts : TableParts) (primary : Bool) (given : Option (List ℕ)) (columns : List (List ℕ)) (name : List ℕ) → length parts.indexes + 2 < 2 ^ 64
+name_fits : (look : Look) (parts : TableParts) (primary : Bool) (given : Option (List ℕ)) (columns : List (List ℕ)) (name : List ℕ)
     → run look (allowed_name primary given) ≡ fine tt → run look (key_name parts primary given columns) ≡ fine name → IsNameFit parts primary name
 unfolding key_name
-name_fits look parts true given columns name few good is = subst (IsNameFit parts true) (fine_is is) (record { named = equal_to_itself primary_name; free = λ wrong. cc })
-name_fits look parts false (Some given) columns name few good is =
+name_fits look parts true given columns name good is = subst (IsNameFit parts true) (fine_is is) (record { named = equal_to_itself primary_name; free = λ wrong. cc })
+name_fits look parts false (Some given) columns name good is =
     let other : same given primary_name ≡ false = allowed look (same given primary_name) (wrong_name_for_index given) good in
     elim (has_index_named parts.indexes given) as (λ v. has_index_named parts.indexes given ≡ v → run look (cond v (refuse (dup_keyname given)) (done given)) ≡ fine name → IsNameFit parts false name) [
       | true ↦ λ there e. cc
       | false ↦ λ none e. subst (IsNameFit parts false) (fine_is e) (record { named = ap not other; free = λ _. none })
     ] refl is
-name_fits look parts false None columns name few good is =
-    let made = free_name parts.indexes (base_name parts.name.name columns) in
-    made_fits look parts made name (name_fault made true) (free_is_free parts.indexes (base_name parts.name.name columns) few) is
+name_fits look parts false None columns name good is = free_fits parts name (made_is_free look parts.indexes (base_name parts.name.name columns) name is)
 
 -- ## The index
 
@@ -73,9 +66,9 @@ made_index look parts words columns name alone few are count fits =
       free = fits.free;
     }
 
-pub indexes_are_fit : (look : Look) (parts : TableParts) (words : KeyWords) (index : IndexDef) → length parts.indexes + 2 < 2 ^ 64 → run look (key_of parts words) ≡ fine index → IsIndexFit parts words index
+pub indexes_are_fit : (look : Look) (parts : TableParts) (words : KeyWords) (index : IndexDef) → run look (key_of parts words) ≡ fine index → IsIndexFit parts words index
 unfolding key_of
-indexes_are_fit look parts words index few is =
+indexes_are_fit look parts words index is =
     let primary = is_primary_class words.class in
     let second = primary && list_any is_primary parts.indexes in
     let (_, alone, behind_primary) = bind_fine look (refuse_if second multiple_pri_key) _ index is in
@@ -86,4 +79,4 @@ indexes_are_fit look parts words index few is =
     let all = all_spelled look parts.columns words.columns [] columns (record { distinct = refl; there = refl }) spelled in
     subst (IsIndexFit parts words) (fine_is end)
     (made_index look parts words columns name (allowed look second multiple_pri_key alone) (allowed look (nat_lt 16 (length words.columns)) too_many_key_parts short) all.0
-    (all.1 ∙ omega arith) (name_fits look parts primary (given_name words) columns name few good named))
+    (all.1 ∙ omega arith) (name_fits look parts primary (given_name words) columns name good named))

@@ -1,5 +1,5 @@
 -- What an index has that the rules take.
-use Rattle.std.specs.Prelude.{◌≡◌, ◌+◌, ◌<◌, ◌≤◌, ◌^◌, true, false, length}
+use Rattle.std.specs.Prelude.{◌≡◌, ◌≤◌, true, false, length}
 use Rattle.std.specs.List.{list_all, list_any}
 use Rattle.std.specs.Str.{bytes_eq}
 use Rattle.sql_types.specs.declared.words.KeyWords.{KeyWords}
@@ -24,6 +24,6 @@ pub record IsIndexFit (parts : TableParts) (words : KeyWords) (index : IndexDef)
   pub alone : is_primary index ≡ true → list_any is_primary parts.indexes ≡ false
   pub free : is_primary index ≡ false → has_index_named parts.indexes index.name ≡ false
 
--- each index that the rules take is fit beside the table; how many indexes there are fits 64 bits
+-- each index that the rules take is fit beside the table
 abbrev pub IndexesAreFit : Type 0
-IndexesAreFit = (look : Look) (parts : TableParts) (words : KeyWords) (index : IndexDef) → length parts.indexes + 2 < 2 ^ 64 → run look (key_of parts words) ≡ fine index → IsIndexFit parts words index
+IndexesAreFit = (look : Look) (parts : TableParts) (words : KeyWords) (index : IndexDef) → run look (key_of parts words) ≡ fine index → IsIndexFit parts words index

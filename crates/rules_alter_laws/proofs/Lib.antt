@@ -1,0 +1,17 @@
+pub mod Lists
+pub mod Ranks
+pub mod Mapped
+pub mod Arranged
+pub mod Kept
+pub mod AddedColumns
+pub mod AddedKeys
+pub mod AddedForeignKeys
+pub mod Ordered
+pub mod Dropped
+pub mod Renamed
+pub mod Redefined
+pub mod Defaults
+pub mod OtherIndexes
+pub mod Actions
+pub mod Limits
+pub mod Leaves
