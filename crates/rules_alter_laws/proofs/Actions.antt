@@ -87,7 +87,7 @@ foreign_key_behind : (look : Look) (words : FkWords) (state next : Altering) →
 unfolding add_foreign_key
 foreign_key_behind look words state next good is =
     let (parts, made, last) = bind_fine look (one_foreign_key state.parts words) _ next is in
-    let added : IsLinked state.parts parts = foreign_key_is_added look state.parts words parts good.stands made in
+    let added : IsLinked look state.parts parts = foreign_key_is_added look state.parts words parts good.stands made in
     subst (IsBehind state) {x = with_parts state (arranged state.parts parts)} (fine_is last) (arranged_is_behind state (with_parts state parts) added.stands added.name (λ formed. formed))
 
 -- ## RENAME COLUMN

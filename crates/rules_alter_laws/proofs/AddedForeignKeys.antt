@@ -129,8 +129,17 @@ is_indexed look parts words columns indexed good spelled some is = on (has_index
 
 -- ## The foreign key
 
--- the table has a foreign key more, and maybe its index
-pub record IsLinked (parts next : TableParts) : Type 0 where
+-- the table has a foreign key more, which is made of what is asked beside the table with its index
+pub record IsLinked (look : Look) (parts next : TableParts) : Type 0 where
+  pub indexed : TableParts
+  pub written : List (List ℕ)
+  pub asked : ForeignKeyDef
+  pub key : ForeignKeyDef
+  pub made : run look (foreign_key_of indexed written asked) ≡ fine key
+  pub before : Stands indexed
+  pub same_name : indexed.name ≡ parts.name
+  pub indexes : next.indexes ≡ indexed.indexes
+  pub foreign_keys : next.foreign_keys ≡ put_in_order key parts.foreign_keys
   pub stands : Stands next
   pub name : next.name ≡ parts.name
   pub names : KeepNames parts.columns next.columns
@@ -151,9 +160,9 @@ and_key indexed key = record indexed { foreign_keys = put_in_order key indexed.f
 same_count : (n m k j : ℕ) → n ≡ m → (m == k) ≡ true → j ≡ k → (n == j) ≡ true
 same_count n m k j first is other = ap (λ x. x == j) first ∙ ap (λ x. m == x) other ∙ is
 
-one_linked : (parts indexed : TableParts) (columns : List (List ℕ)) (key : ForeignKeyDef) → IsIndexed parts columns indexed → are_key_columns parts.columns columns ≡ true → key.columns ≡ columns → (length columns == length key.parent_columns) ≡ true
-    → has_constraint_named indexed.foreign_keys key.name ≡ false → IsLinked parts (and_key indexed key)
-one_linked parts indexed columns key had fits same_columns counted new =
+one_linked : (look : Look) (parts indexed : TableParts) (columns written : List (List ℕ)) (asked key : ForeignKeyDef) → run look (foreign_key_of indexed written asked) ≡ fine key → IsIndexed parts columns indexed → are_key_columns parts.columns columns ≡ true → key.columns ≡ columns → (length columns == length key.parent_columns) ≡ true
+    → has_constraint_named indexed.foreign_keys key.name ≡ false → IsLinked look parts (and_key indexed key)
+one_linked look parts indexed columns written asked key made had fits same_columns counted new =
     let keys : HasKeys indexed.columns indexed.indexes indexed.foreign_keys = had.stands.keys in
     let formed : is_foreign_key_formed indexed.columns indexed.indexes key ≡ true = key_from indexed.columns indexed.indexes key (record {
       fits = ap (are_key_columns indexed.columns) same_columns ∙ key_columns_stay parts.columns indexed.columns had.names columns fits;
@@ -161,6 +170,15 @@ one_linked parts indexed columns key had fits same_columns counted new =
       has = ap (has_index_on indexed.indexes) same_columns ∙ had.has;
     }) in
     record {
+      indexed = indexed;
+      written = written;
+      asked = asked;
+      key = key;
+      made = made;
+      before = had.stands;
+      same_name = had.name;
+      indexes = refl;
+      foreign_keys = ap (put_in_order key) had.foreign_keys;
       stands = record {
         some = had.stands.some;
         columns = had.stands.columns;
@@ -176,7 +194,7 @@ one_linked parts indexed columns key had fits same_columns counted new =
       leads = had.leads;
     }
 
-pub foreign_key_is_added : (look : Look) (parts : TableParts) (words : FkWords) (next : TableParts) → Stands parts → run look (one_foreign_key parts words) ≡ fine next → IsLinked parts next
+pub foreign_key_is_added : (look : Look) (parts : TableParts) (words : FkWords) (next : TableParts) → Stands parts → run look (one_foreign_key parts words) ≡ fine next → IsLinked look parts next
 unfolding one_foreign_key
 foreign_key_is_added look parts words next good is =
     let (_, as_many, after_count) = bind_fine look (refuse_if (not (length words.columns == length words.parent_columns)) (refusals.wrong_fk_def (name_in_text words.constraint))) _ next is in
@@ -197,5 +215,5 @@ foreign_key_is_added look parts words next good is =
     let parents : length key.parent_columns ≡ length words.parent_columns = ap (λ (k : ForeignKeyDef). length k.parent_columns) fit.kept ∙ length-map words.parent_columns (spelled parent.columns) in
     let numbers : (length columns == length key.parent_columns) ≡ true = same_count (length columns) (length words.columns) (length words.parent_columns) (length key.parent_columns) count equal parents in
     let same_columns : key.columns ≡ columns = ap (λ (k : ForeignKeyDef). k.columns) fit.kept in
-    subst (IsLinked parts) {x = and_key indexed key} {y = next} (fine_is {x = and_key indexed key} {y = next} last)
-    (one_linked parts indexed columns key had (fitting parts columns (length words.columns) are count there within) same_columns numbers fit.own)
+    subst (IsLinked look parts) {x = and_key indexed key} {y = next} (fine_is {x = and_key indexed key} {y = next} last)
+    (one_linked look parts indexed columns words.columns (key_named words parts.name name columns) key made had (fitting parts columns (length words.columns) are count there within) same_columns numbers fit.own)

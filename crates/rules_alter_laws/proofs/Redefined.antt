@@ -215,10 +215,10 @@ never_unless false column is = cc
 
 -- ## The column with its new definition
 
-record IsRedefined (before next : Altering) : Type 0 where
-  stands : Stands next.parts
-  name : next.parts.name ≡ before.parts.name
-  children : AreChildrenFormed before → AreChildrenFormed next
+pub record IsRedefined (before next : Altering) : Type 0 where
+  pub stands : Stands next.parts
+  pub name : next.parts.name ≡ before.parts.name
+  pub children : AreChildrenFormed before → AreChildrenFormed next
 
 column_is_changed : (from : List ℕ) (place : Option Place) (column : ColumnDef) (is_null : Bool) (state : Altering) → IsRenaming state.parts.columns from column.name → StandsInOrder state.parts → IsFit column
     → (is_in_primary state.parts.indexes from ≡ true → column.nullable ≡ false) → IsRedefined state (column_changed from place column is_null state)
@@ -231,7 +231,7 @@ column_is_changed from place column is_null state new good fit asks =
       children = named.behind.children;
     }
 
-is_redefined : (old : List ℕ) (words : ColumnWords) (place : Option Place) (made : ColumnDef) (before : Altering) → IsRenaming before.parts.columns old made.name → StandsInOrder before.parts → IsFit made → IsRedefined before (redefined old words place made before)
+pub is_redefined : (old : List ℕ) (words : ColumnWords) (place : Option Place) (made : ColumnDef) (before : Altering) → IsRenaming before.parts.columns old made.name → StandsInOrder before.parts → IsFit made → IsRedefined before (redefined old words place made before)
 unfolding redefined
 is_redefined old words place made before new good fit =
     let is_key : Bool = is_in_primary before.parts.indexes old in
@@ -249,12 +249,12 @@ column_keys_behind look state words next good is =
 
 -- ## CHANGE COLUMN and MODIFY COLUMN
 
-record IsChangeAllowed (old : List ℕ) (words : ColumnWords) (parts : TableParts) (made : ColumnDef) : Type 0 where
-  fit : IsFit made
-  name : made.name ≡ words.name
-  new : has_column (other_columns old parts.columns) words.name ≡ false
+pub record IsChangeAllowed (old : List ℕ) (words : ColumnWords) (parts : TableParts) (made : ColumnDef) : Type 0 where
+  pub fit : IsFit made
+  pub name : made.name ≡ words.name
+  pub new : has_column (other_columns old parts.columns) words.name ≡ false
 
-change_is_allowed : (look : Look) (old : List ℕ) (words : ColumnWords) (place : Option Place) (parts : TableParts) (made : ColumnDef) → run look (allowed_change old words place parts) ≡ fine made → IsChangeAllowed old words parts made
+pub change_is_allowed : (look : Look) (old : List ℕ) (words : ColumnWords) (place : Option Place) (parts : TableParts) (made : ColumnDef) → run look (allowed_change old words place parts) ≡ fine made → IsChangeAllowed old words parts made
 unfolding allowed_change
 change_is_allowed look old words place parts made is =
     let (_, absent, after_name) = bind_fine look (refuse_if (has_column (other_columns old parts.columns) words.name) (dup_fieldname words.name)) _ made is in
