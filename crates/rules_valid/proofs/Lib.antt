@@ -24,3 +24,4 @@ pub mod RenamedAll
 pub mod Sessions
 pub mod Likes
 pub mod Emptied
+mod AlteredPlaces

@@ -59,18 +59,18 @@ pub record IsOwner (schema folded : List ℕ) (at : Places) (owner : ObjName) : 
   pub schema_is : owner.schema ≡ schema
   pub has : has_constraint folded placed ≡ true
 
-record IsFound (schema folded : List ℕ) (objects : List (ObjName × Placed)) : Type 0 where
-  owner : ObjName
-  placed : Placed
-  there : IsIn (owner, placed) objects
-  schema_is : owner.schema ≡ schema
-  has : has_constraint folded placed ≡ true
-  seen : owner_among schema folded objects ≡ OwnerThere owner
+pub record IsFound (schema folded : List ℕ) (objects : List (ObjName × Placed)) : Type 0 where
+  pub owner : ObjName
+  pub placed : Placed
+  pub there : IsIn (owner, placed) objects
+  pub schema_is : owner.schema ≡ schema
+  pub has : has_constraint folded placed ≡ true
+  pub seen : owner_among schema folded objects ≡ OwnerThere owner
 
-abbrev IsNone : List ℕ → List ℕ → List (ObjName × Placed) → Type 0
+abbrev pub IsNone : List ℕ → List ℕ → List (ObjName × Placed) → Type 0
 IsNone schema folded objects = (owner_among schema folded objects ≡ Nothing) × ((o : ObjName) (placed : Placed) → IsIn (o, placed) objects → o.schema ≡ schema → has_constraint folded placed ≡ true → ⊥)
 
-find_owner : (schema folded : List ℕ) (objects : List (ObjName × Placed)) → IsFound schema folded objects ⊎ IsNone schema folded objects
+pub find_owner : (schema folded : List ℕ) (objects : List (ObjName × Placed)) → IsFound schema folded objects ⊎ IsNone schema folded objects
 find_owner schema folded [] = inr (refl, λ o placed is _ _. absurd is)
 find_owner schema folded (e ∷ es) = on (bytes_eq e.0.schema schema && has_constraint folded e.1) refl (find_owner schema folded es)
   where
