@@ -25,3 +25,5 @@ pub mod Sessions
 pub mod Likes
 pub mod Emptied
 mod AlteredPlaces
+mod AlteredStart
+mod AlteredBuilt

@@ -60,7 +60,7 @@ name_in schema q p (e ∷ es) (inr later) is =
     cond_both (bytes_eq e.0.schema schema) (e.0.name ∷ names_among schema es) (names_among schema es) (λ ys. list_any (bytes_eq q.name) ys ≡ true)
     (λ _. or_right (bytes_eq q.name e.0.name) (list_any (bytes_eq q.name) (names_among schema es)) rest) (λ _. rest)
 
-child_in : (parent q : ObjName) (p : Placed) (es : List (ObjName × Placed)) → IsIn (q, p) es → (refers_to parent p && not (is_same_object q parent)) ≡ true → list_any (is_same_object q) (children_among parent es) ≡ true
+pub child_in : (parent q : ObjName) (p : Placed) (es : List (ObjName × Placed)) → IsIn (q, p) es → (refers_to parent p && not (is_same_object q parent)) ≡ true → list_any (is_same_object q) (children_among parent es) ≡ true
 child_in parent q p [] there is = absurd there
 child_in parent q p (e ∷ es) (inl here) is =
     subst (λ (x : ObjName × Placed). list_any (is_same_object q) (children_among parent (x ∷ es)) ≡ true) (sym here)
