@@ -1,6 +1,6 @@
 -- The catalog behind a table that is altered in its place.
-use Rattle.std.specs.Prelude.{◌≡◌, ◌⊎◌, ℕ, Bool, true, false, cond, ◌&&◌, ◌||◌, not, List, [], ◌∷◌, map, filter, Option, Some, None, refl}
-use Rattle.std.specs.List.{list_any, list_all, AllByRecursion}
+use Rattle.std.specs.Prelude.{◌≡◌, ◌⊎◌, ℕ, Bool, true, false, cond, List, [], ◌∷◌, map, filter, Option, Some, refl}
+use Rattle.std.specs.List.{list_all, AllByRecursion}
 use Rattle.std.specs.FinMap as finite_map
 use Rattle.std.proofs.Common.{sym, ◌∙◌, ap, subst, inl, inr}
 use Rattle.std.proofs.lemmas.Bool.{true≢false}
@@ -10,27 +10,25 @@ use Rattle.dd_definitions.specs.Named.{has_names}
 use Rattle.dd_definitions.specs.declared.foreign_keys.ForeignKeyDef.{ForeignKeyDef}
 use Rattle.dd_definitions.specs.declared.parts.TableParts.{TableParts}
 use Rattle.dd_catalog.proofs.ObjectNames.{get_inserted, same_object}
-use Rattle.dd_catalog.specs.Catalog.{Catalog, Placed, Table, View, NameSet, all_of, children_among, is_same_object, refers_to}
-use Rattle.dd_catalog.specs.Valid.{Has, IsValid, is_parent_fit, is_placed_named}
-use Rattle.dd_catalog.specs.Walks.{fine, run}
-use Rattle.rules_outcome.specs.Choices.{FreshTable, KeptTable, Change, change, Choice, Changes, applied, applied_at, makes_space, IsNewSpace}
+use Rattle.dd_catalog.specs.Catalog.{Catalog, Placed, Table, NameSet, all_of, children_among, is_same_object, refers_to}
+use Rattle.dd_catalog.specs.Valid.{IsValid, is_parent_fit, is_placed_named}
+use Rattle.rules_outcome.specs.Choices.{applied, applied_at, IsNewSpace}
 use Rattle.rules_create.specs.Leaves.{IsTableAt}
 use Rattle.rules_alter.specs.Statements.{Found, child_of, table_behind, child_change, is_child_changed, changes_in_place, start_of}
 use Rattle.rules_alter.specs.declared.states.Altering.{Altering}
 use Rattle.rules_alter.specs.declared.states.Child.{Child}
 use Rattle.rules_alter_laws.proofs.Leaves.{IsAltered}
 use Rattle.rules_alter_keys_laws.specs.Children.{IsChildOf, AreChildrenOf}
-use Rattle.rules_alter_keys_laws.specs.Grounds.{IsGrounded, ArePaired, is_child_paired, is_own_paired, is_grounded}
+use Rattle.rules_alter_keys_laws.specs.Grounds.{IsGrounded, is_child_paired, is_grounded}
 use Rattle.rules_alter_keys_laws.specs.Led.{are_led, IsLed}
-use Rattle.rules_alter_keys_laws.proofs.Follows.{IsFollowed}
 use Rattle.rules_alter_keys_laws.proofs.Whole.{IsWhole}
 use Rattle.rules_valid.specs.Keeps.{HasSpace}
-use Rattle.rules_valid.proofs.AlteredPlaces.{IsFrom, IsOwnAt, IsChildAt, IsOtherAt, IsAt, IsInPlace, in_place_sound}
+use Rattle.rules_valid.proofs.AlteredPlaces.{IsFrom, IsAt, IsInPlace, in_place_sound}
 use Rattle.rules_valid.proofs.AlteredStart.{children_at, IsStart, each_starts, referring_there, all_led, all_grounded, each_named, children_led}
 use Rattle.rules_valid.proofs.RenamedLists.{IsIn, in_filter, filter_in}
-use Rattle.rules_valid.proofs.RenamedNames.{is_same, same_or_not, not_same}
+use Rattle.rules_valid.proofs.RenamedNames.{is_same, same_or_not}
 use Rattle.rules_valid.proofs.RenamedPlaces.{Places}
-use Rattle.rules_valid.proofs.RenamedSound.{ArePlacedNamed, IsSound, schemas_of, to_valid}
+use Rattle.rules_valid.proofs.RenamedSound.{IsSound, schemas_of, to_valid}
 
 -- ## Items of lists
 
@@ -100,10 +98,13 @@ child_put space (c ∷ children) cat name =
     on : (b : Bool) → is_same_object name c.name ≡ b → ((child : Child) → IsIn child children → child.name ≡ name → ⊥) → after ≡ cond b (Some (Table c.space c.parts)) (finite_map.get cat.objects name)
         → IsPut (c ∷ children) after name ⊎ IsNotPut (c ∷ children) (finite_map.get cat.objects name) after name
     on true same none is = inl (record { child = c; there = inl refl; named = sym (same_object name c.name same); is = is })
-    on false apart none is = inr (record { none = λ child there named. elim there [
-      | inl first ↦ true≢false (sym (is_same name c.name (sym named ∙ ap (λ (d : Child). d.name) first)) ∙ apart)
-      | inr later ↦ none child later named
-    ]; is = is })
+    on false apart none is = inr (record {
+      none = λ child there named. elim there [
+        | inl first ↦ true≢false (sym (is_same name c.name (sym named ∙ ap (λ (d : Child). d.name) first)) ∙ apart)
+        | inr later ↦ none child later named
+      ];
+      is = is;
+    })
 
 children_schemas : (space : ℕ) (children : List Child) (cat : Catalog) → (put_children space children cat).schemas ≡ cat.schemas
 children_schemas space [] cat = refl
@@ -142,14 +143,13 @@ child_or_none name (c ∷ children) = elim (same_or_not c.name name) [
   ]
 ]
 
--- what the actions have made of a table that stands in the catalog, and the number for its tablespace
-pub record IsMade (cat : Catalog) (table : ObjName) (space : ℕ) (found : Found) (state : Altering) : Type 0 where
+-- what the actions have made of a table that stands in the catalog
+pub record IsMade (cat : Catalog) (table : ObjName) (found : Found) (state : Altering) : Type 0 where
   pub was : finite_map.get cat.objects table ≡ Some (Table found.space found.parts)
   pub altered : IsAltered table state
   pub whole : IsWhole (all_of cat) (start_of found.parts (starts_of cat table)) state
-  pub new : state.is_rebuilt ≡ true → IsNewSpace cat space
 
-module _ (cat : Catalog) (valid : IsValid cat) (table : ObjName) (space : ℕ) (found : Found) (state : Altering) (made : IsMade cat table space found state) where
+module _ (cat : Catalog) (valid : IsValid cat) (table : ObjName) (space : ℕ) (found : Found) (state : Altering) (made : IsMade cat table found state) where
   named : found.parts.name ≡ table
   named = valid.names_carried table (Table found.space found.parts) (record { is = made.was })
 
@@ -236,15 +236,16 @@ module _ (cat : Catalog) (valid : IsValid cat) (table : ObjName) (space : ℕ) (
       on true same none is = inl (record { same = same_object name state.parts.name same ∙ own_name_is; is = is })
       on false apart none is = untouched name none apart is
 
-  held_is : (b : Bool) → state.is_rebuilt ≡ b → (cond b space found.space ≡ found.space) ⊎ IsNewSpace cat (cond b space found.space)
-  held_is true is = inr (made.new is)
-  held_is false is = inl refl
+  held_is : (state.is_rebuilt ≡ true → IsNewSpace cat space) → (b : Bool) → state.is_rebuilt ≡ b → (cond b space found.space ≡ found.space) ⊎ IsNewSpace cat (cond b space found.space)
+  held_is new true is = inr (new is)
+  held_is new false is = inl refl
 
-  pub in_place : IsInPlace cat table found.space (held_of space found.space state) state (finite_map.get (in_place_catalog space found.space state cat).objects)
-  in_place = record {
+  -- where the number for its tablespace is new
+  pub in_place : (state.is_rebuilt ≡ true → IsNewSpace cat space) → IsInPlace cat table found.space (held_of space found.space state) state (finite_map.get (in_place_catalog space found.space state cat).objects)
+  in_place new = record {
     before = found.parts;
     was = made.was;
-    space = held_is state.is_rebuilt refl;
+    space = held_is new state.is_rebuilt refl;
     stands = made.altered.stands;
     led = ap (λ n. are_led n state.parts.indexes state.parts.foreign_keys) (sym own_name_is) ∙ led.own;
     grounded = ap (λ n. list_all (is_grounded (all_of cat) n) state.parts.foreign_keys) (sym own_name_is) ∙ grounded.own;
@@ -258,11 +259,11 @@ module _ (cat : Catalog) (valid : IsValid cat) (table : ObjName) (space : ℕ) (
   }
 
   -- where the names in the table and in its children are names, the catalog is valid
-  pub in_place_valid : has_names state.parts ≡ true → AllByRecursion (λ (child : Child). has_names child.parts ≡ true) state.children → IsValid (in_place_catalog space found.space state cat)
-  in_place_valid own_names child_names = to_valid (in_place_catalog space found.space state cat)
+  pub in_place_valid : (state.is_rebuilt ≡ true → IsNewSpace cat space) → has_names state.parts ≡ true → AllByRecursion (λ (child : Child). has_names child.parts ≡ true) state.children → IsValid (in_place_catalog space found.space state cat)
+  in_place_valid new own_names child_names = to_valid (in_place_catalog space found.space state cat)
       (λ name there. valid.own_schemas name (still name there)) (λ name there. valid.schemas_named name (still name there))
       (subst (λ (schemas : NameSet). IsSound (λ name. finite_map.contains_key schemas name) (finite_map.get (in_place_catalog space found.space state cat).objects)) (sym schemas_same)
-      (in_place_sound cat valid table found.space (held_of space found.space state) state (finite_map.get (in_place_catalog space found.space state cat).objects) in_place))
+      (in_place_sound cat valid table found.space (held_of space found.space state) state (finite_map.get (in_place_catalog space found.space state cat).objects) (in_place new)))
       (record { all = λ name placed is. names_at name placed is (at name) })
     where
       schemas_same : (in_place_catalog space found.space state cat).schemas ≡ cat.schemas

@@ -9,15 +9,12 @@ use Rattle.dd_names.specs.Names.{fold}
 use Rattle.dd_names.specs.declared.object_name.ObjName.{ObjName}
 use Rattle.dd_names.specs.declared.object_name.ObjectKey.TheVariants as keys
 use Rattle.dd_definitions.specs.ForeignKeys.{has_index_on}
-use Rattle.dd_definitions.specs.declared.columns.ColumnDef.{ColumnDef}
 use Rattle.dd_definitions.specs.declared.foreign_keys.ForeignKeyDef.{ForeignKeyDef}
-use Rattle.dd_definitions.specs.declared.indexes.IndexDef.{IndexDef}
 use Rattle.dd_definitions.specs.declared.parts.TableParts.{TableParts}
 use Rattle.dd_definitions.specs.declared.view_parts.ViewParts.{ViewParts}
-use Rattle.dd_catalog.proofs.ObjectNames.{same_object, object_itself}
+use Rattle.dd_catalog.proofs.ObjectNames.{same_object}
 use Rattle.dd_catalog.specs.Catalog.{Catalog, Placed, Table, View, all_of, has_constraint, is_same_object, object_seen, owner_among, refers_to}
-use Rattle.dd_catalog.specs.Sights.{Sight, OwnerThere}
-use Rattle.dd_catalog.specs.Valid.{are_columns_paired, is_parent_fit, is_placed_formed, own_name, Has, IsValid}
+use Rattle.dd_catalog.specs.Valid.{are_columns_paired, is_parent_fit, is_placed_formed, own_name, IsValid}
 use Rattle.rules_elements.specs.ForeignKeys.{is_owned_elsewhere}
 use Rattle.rules_outcome.specs.Choices.{IsNewSpace}
 use Rattle.rules_create.specs.Leaves.{IsTableAt}
@@ -25,7 +22,7 @@ use Rattle.rules_create.proofs.Lists.{some_passes}
 use Rattle.rules_create.proofs.Names.{bytes_are}
 use Rattle.rules_alter.specs.declared.states.Altering.{Altering}
 use Rattle.rules_alter.specs.declared.states.Child.{Child}
-use Rattle.rules_alter_keys_laws.specs.Children.{IsSameKey, AreSameKeys}
+use Rattle.rules_alter_keys_laws.specs.Children.{AreSameKeys}
 use Rattle.rules_alter_keys_laws.specs.Grounds.{is_unowned, has_parent_index, is_grounded, is_own_paired, is_paired_there, is_child_paired}
 use Rattle.rules_alter_keys_laws.specs.Led.{is_led, are_led}
 use Rattle.rules_alter_keys_laws.proofs.Relation.{keys_themselves}

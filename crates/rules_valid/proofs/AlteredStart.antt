@@ -1,5 +1,5 @@
 -- A table and its children as the actions find them in a valid catalog.
-use Rattle.std.specs.Prelude.{◌≡◌, ◌⊎◌, ℕ, Bool, true, false, ◌&&◌, ◌||◌, not, nat_lt, List, [], ◌∷◌, ◌++◌, length, Option, Some, None, refl}
+use Rattle.std.specs.Prelude.{◌≡◌, ◌⊎◌, ℕ, true, false, ◌&&◌, ◌||◌, not, nat_lt, List, [], ◌∷◌, ◌++◌, length, Option, Some, None, refl}
 use Rattle.std.specs.List.{list_any, list_all, AllByRecursion, flat_map}
 use Rattle.std.specs.FinMap as finite_map
 use Rattle.std.specs.Str.{bytes_eq}
@@ -14,20 +14,18 @@ use Rattle.dd_definitions.specs.declared.foreign_keys.ForeignKeyDef.{ForeignKeyD
 use Rattle.dd_definitions.specs.declared.parts.TableParts.{TableParts}
 use Rattle.dd_catalog.proofs.ObjectNames.{same_object}
 use Rattle.dd_catalog.specs.Asked.{fine_is, bind_fine}
-use Rattle.dd_catalog.specs.Catalog.{Catalog, Placed, Table, View, all_of, children_among, has_constraint, is_same_object, object_seen, owner_among, refers_to, sight_of}
+use Rattle.dd_catalog.specs.Catalog.{Catalog, Placed, Table, View, all_of, children_among, has_constraint, is_same_object, object_seen, owner_among, refers_to}
 use Rattle.dd_catalog.specs.Sights.{Sight}
-use Rattle.dd_catalog.specs.Valid.{are_columns_paired, is_parent_fit, Has, IsValid}
-use Rattle.dd_catalog.specs.Walks.{◌>>=◌, done, fine, run, look_at, refuse_if, over}
+use Rattle.dd_catalog.specs.Valid.{are_columns_paired, is_parent_fit, IsValid}
+use Rattle.dd_catalog.specs.Walks.{fine, run, refuse_if, over}
 use Rattle.rules_elements.specs.ForeignKeys.{is_owned_elsewhere}
 use Rattle.rules_refusals.specs.Refusals.{beyond_limit}
-use Rattle.rules_schema.specs.Drops.{children_seen}
 use Rattle.rules_create.proofs.Lists.{each_in}
 use Rattle.rules_create.proofs.Names.{bytes_same}
-use Rattle.rules_alter.specs.Statements.{child_of, child_seen, children_of, one_child, start_of}
-use Rattle.rules_alter.specs.declared.states.Altering.{Altering}
+use Rattle.rules_alter.specs.Statements.{child_of, child_seen, children_of, one_child}
 use Rattle.rules_alter.specs.declared.states.Child.{Child}
 use Rattle.rules_alter_keys_laws.specs.Grounds.{is_unowned, has_parent_index, is_grounded}
-use Rattle.rules_alter_keys_laws.specs.Led.{is_led, are_led, IsLed}
+use Rattle.rules_alter_keys_laws.specs.Led.{is_led, are_led}
 use Rattle.rules_valid.proofs.Objects.{child_in, entry_in}
 use Rattle.rules_valid.proofs.RenamedLists.{IsIn, in_front, in_back, in_either}
 use Rattle.rules_valid.proofs.RenamedNames.{not_same, is_same}

@@ -27,3 +27,5 @@ pub mod Emptied
 mod AlteredPlaces
 mod AlteredStart
 mod AlteredBuilt
+mod AlteredNamed
+pub mod Altered

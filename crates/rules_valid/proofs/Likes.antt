@@ -17,7 +17,7 @@ use Rattle.dd_definitions.specs.WellFormed.{is_well_formed}
 use Rattle.dd_definitions.specs.declared.parts.TableParts.{TableParts}
 use Rattle.dd_catalog.specs.Asked.{fine_is, bind_fine}
 use Rattle.dd_catalog.specs.Catalog.{Catalog, Placed, Table, View, object_seen, all_of}
-use Rattle.dd_catalog.specs.Sights.{Sight, TableThere, ViewThere}
+use Rattle.dd_catalog.specs.Sights.{Sight}
 use Rattle.dd_catalog.specs.Valid.{Has, IsValid}
 use Rattle.dd_catalog.specs.Walks.{done, fine, run}
 use Rattle.rules_outcome.specs.Choices.{Choice, catalog_behind, takes_space}

@@ -175,7 +175,7 @@ given_named key named =
     let (constraint, name) = and_parts (is_named key.constraint) (is_named key.name) front in
     first_named key.name (constraint_taken key.class key.constraint) name (taken_named key.class key.constraint constraint)
 
-key_keeps : (look : Look) (table : ObjName) (written : List ColumnWords) (parts : TableParts) (words : KeyWords) (next : TableParts) → is_key_named words ≡ true → AreNamed table parts → run look (one_key written parts words) ≡ fine next → AreNamed table next
+pub key_keeps : (look : Look) (table : ObjName) (written : List ColumnWords) (parts : TableParts) (words : KeyWords) (next : TableParts) → is_key_named words ≡ true → AreNamed table parts → run look (one_key written parts words) ≡ fine next → AreNamed table next
 unfolding one_key
 key_keeps look table written parts words next named so_far is =
     let (_, some, after_some) = bind_fine look (some_columns words.columns) _ next is in

@@ -18,7 +18,8 @@ ghost use Rattle.rules_create.specs.Tables.{create_table};
 ghost use Rattle.rules_tables.specs.Likes.{create_like};
 ghost use Rattle.rules_tables.specs.Truncates.{truncate};
 ghost use Rattle.rules_rename.specs.Renames.{rename};
-ghost use Rattle.rules_valid.specs.Keeps.{KeepsValid, KeepsNamed};
+ghost use Rattle.rules_alter.specs.Statements.{create_index, drop_index};
+ghost use Rattle.rules_valid.specs.Keeps.{KeepsValid, KeepsNamed, MakesOneSpace};
 
 /// The catalog without schemas and objects is valid. It does nothing when it runs.
 pub fn empty_catalogs_are_valid()
@@ -53,6 +54,16 @@ pub fn tables_keep_valid()
 pub fn renames_keep_validity()
     ensures kept { (cat : Catalog) (space : ℕ) (session : SessionState) (pairs : List RenamePair) (choice : Choice) → session_is_named session ≡ true → list_all is_pair_named pairs ≡ true
         → IsValid cat → run (all_of cat) (rename session pairs) ≡ fine choice → IsValid (catalog_behind space choice cat) }
+{}
+
+/// CREATE INDEX and DROP INDEX that say names leave a valid catalog valid, and take one number at most for a tablespace. It does
+/// nothing when it runs.
+pub fn indexes_keep_valid()
+    ensures created { (session : SessionState) (is_unique : Bool) (name : List ℕ) (ref : ObjRef) (columns : List (List ℕ)) → session_is_named session ≡ true → is_object_named ref ≡ true
+        → is_name name ≡ true → list_all is_name columns ≡ true → KeepsValid (create_index session is_unique name ref columns) }
+    ensures created_space { (session : SessionState) (is_unique : Bool) (name : List ℕ) (ref : ObjRef) (columns : List (List ℕ)) → MakesOneSpace (create_index session is_unique name ref columns) }
+    ensures dropped { (session : SessionState) (name : List ℕ) (ref : ObjRef) → session_is_named session ≡ true → is_object_named ref ≡ true → KeepsValid (drop_index session name ref) }
+    ensures dropped_space { (session : SessionState) (name : List ℕ) (ref : ObjRef) → MakesOneSpace (drop_index session name ref) }
 {}
 
 /// The current schema that a statement leaves is a name, or there is none, where that was so before and USE says a name. It does
