@@ -27,9 +27,11 @@ use Rattle.rules_alter.specs.declared.states.Child.{Child}
 use Rattle.rules_alter_laws.proofs.Leaves.{all_are_formed}
 use Rattle.rules_alter_laws.proofs.Limits.{formed_stands}
 use Rattle.rules_alter_keys_laws.proofs.Whole.{all_follow}
+use Rattle.rules_valid.specs.Altered.{is_action_named}
 use Rattle.rules_valid.specs.Keeps.{KeepsValid, MakesOneSpace}
 use Rattle.rules_valid.proofs.AlteredBuilt.{starts_of, IsMade, in_place_catalog, catalog_is, in_place_valid, in_place_spaces}
 use Rattle.rules_valid.proofs.AlteredNamed.{AreAllNamed, KeepsAllNamed, added_key_named, dropped_index_named}
+use Rattle.rules_valid.proofs.AlteredNames.{actions_named}
 use Rattle.rules_valid.proofs.AlteredStart.{IsStart, children_are, each_starts}
 use Rattle.rules_valid.proofs.MadeNamed.{names_are, named_of}
 use Rattle.rules_valid.proofs.RenamedLists.{IsIn}
@@ -130,18 +132,18 @@ start_named cat valid table found was =
     }
 
 -- ALTER TABLE without a new name, whose actions keep names
-alter_keeps : (session : SessionState) (ref : ObjRef) (acts : List AlterAction) → session_is_named session ≡ true → says.is_object_named ref ≡ true → flat_map target_in acts ≡ [] → ((cat : Catalog) → KeepsAllNamed (all_of cat) acts) → KeepsValid (alter_table session ref acts)
+alter_keeps : (session : SessionState) (ref : ObjRef) (acts : List AlterAction) → session_is_named session ≡ true → says.is_object_named ref ≡ true → flat_map target_in acts ≡ [] → ((cat : Catalog) → IsValid cat → KeepsAllNamed (all_of cat) acts) → KeepsValid (alter_table session ref acts)
 alter_keeps session ref acts current said none names = record {
   keeps = λ cat space choice valid number is.
       let so : IsAlteredSo cat session ref acts choice = altered_so cat session ref acts choice none valid is in
       let table_named : is_object_named so.table ≡ true = resolved_named (all_of cat) session.current ref so.table current said so.resolved_is in
-      let named : AreAllNamed so.table so.state = (names cat).kept so.table (start_of so.found.parts (starts_of cat so.table)) so.state table_named (start_named cat valid so.table so.found so.made.was) so.acted in
+      let named : AreAllNamed so.table so.state = (names cat valid).kept so.table (start_of so.found.parts (starts_of cat so.table)) so.state table_named (start_named cat valid so.table so.found so.made.was) so.acted in
       let new : so.state.is_rebuilt ≡ true → IsNewSpace cat space = λ rebuilt. number (ap takes_space (sym so.is) ∙ takes_it so.found.space so.state session rebuilt) in
       subst (λ c. IsValid (catalog_behind space c cat)) so.is
       (subst IsValid (sym (catalog_is space so.found.space so.state cat)) (in_place_valid cat valid so.table space so.found so.state so.made new (names_are so.table so.state.parts table_named named.own) named.children));
 }
 
-alter_makes : (session : SessionState) (ref : ObjRef) (acts : List AlterAction) → flat_map target_in acts ≡ [] → MakesOneSpace (alter_table session ref acts)
+pub alter_makes : (session : SessionState) (ref : ObjRef) (acts : List AlterAction) → flat_map target_in acts ≡ [] → MakesOneSpace (alter_table session ref acts)
 alter_makes session ref acts none = record {
   made = λ cat space choice valid is name held parts has.
       let so : IsAlteredSo cat session ref acts choice = altered_so cat session ref acts choice none valid is in
@@ -157,13 +159,17 @@ pub create_index_keeps : (session : SessionState) (is_unique : Bool) (name : Lis
     → KeepsValid (create_index session is_unique name ref columns)
 create_index_keeps session is_unique name ref columns current said named all =
     alter_keeps session ref (actions.AddKey (index_words is_unique name columns) ∷ []) current said refl
-    (λ cat. added_key_named (all_of cat) (index_words is_unique name columns) (and_from (is_name name) (list_all is_name columns) named all))
+    (λ cat valid. added_key_named (all_of cat) (index_words is_unique name columns) (and_from (is_name name) (list_all is_name columns) named all))
 
 pub create_index_makes : (session : SessionState) (is_unique : Bool) (name : List ℕ) (ref : ObjRef) (columns : List (List ℕ)) → MakesOneSpace (create_index session is_unique name ref columns)
 create_index_makes session is_unique name ref columns = alter_makes session ref (actions.AddKey (index_words is_unique name columns) ∷ []) refl
 
 pub drop_index_keeps : (session : SessionState) (name : List ℕ) (ref : ObjRef) → session_is_named session ≡ true → says.is_object_named ref ≡ true → KeepsValid (drop_index session name ref)
-drop_index_keeps session name ref current said = alter_keeps session ref (actions.DropIndex name ∷ []) current said refl (λ cat. dropped_index_named (all_of cat) name)
+drop_index_keeps session name ref current said = alter_keeps session ref (actions.DropIndex name ∷ []) current said refl (λ cat valid. dropped_index_named (all_of cat) name)
 
 pub drop_index_makes : (session : SessionState) (name : List ℕ) (ref : ObjRef) → MakesOneSpace (drop_index session name ref)
 drop_index_makes session name ref = alter_makes session ref (actions.DropIndex name ∷ []) refl
+
+-- ALTER TABLE without a new name of the table
+pub alter_table_keeps : (session : SessionState) (ref : ObjRef) (acts : List AlterAction) → session_is_named session ≡ true → says.is_object_named ref ≡ true → list_all is_action_named acts ≡ true → flat_map target_in acts ≡ [] → KeepsValid (alter_table session ref acts)
+alter_table_keeps session ref acts current said acts_said none = alter_keeps session ref acts current said none (λ cat valid. actions_named cat valid acts acts_said)

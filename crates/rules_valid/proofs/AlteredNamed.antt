@@ -36,7 +36,7 @@ pub record AreAllNamed (table : ObjName) (state : Altering) : Type 0 where
 pub record KeepsAllNamed (look : Look) (acts : List AlterAction) : Type 0 where
   pub kept : (table : ObjName) (start state : Altering) → is_object_named table ≡ true → AreAllNamed table start → run look (all_acted start acts) ≡ fine state → AreAllNamed table state
 
-arranged_named : (table : ObjName) (parts next : TableParts) → IsArranged parts next → AreNamed table parts → AreNamed table next
+pub arranged_named : (table : ObjName) (parts next : TableParts) → IsArranged parts next → AreNamed table parts → AreNamed table next
 arranged_named table parts next there named = subst (AreNamed table) {x = record parts { indexes = there.indexes }} there.is (record {
   name = named.name;
   columns = named.columns;
@@ -59,14 +59,14 @@ one_named look action keeps = record {
       subst (AreAllNamed table) (fine_is rest ∙ fine_is last) rebuilt;
 }
 
-key_named : (look : Look) (words : KeyWords) → is_key_named words ≡ true → (table : ObjName) (start state : Altering) → AreAllNamed table start → run look (add_key words start) ≡ fine state → AreAllNamed table state
+pub key_named : (look : Look) (words : KeyWords) → is_key_named words ≡ true → (table : ObjName) (start state : Altering) → AreAllNamed table start → run look (add_key words start) ≡ fine state → AreAllNamed table state
 unfolding add_key
 key_named look words said table start state named is =
     let (parts, made, last) = bind_fine look (key_added start.nulls start.parts words) _ state is in
     let more : AreNamed table parts = key_keeps look table (map null_words start.nulls) start.parts words parts said named.own made in
     subst (AreAllNamed table) {x = with_parts start (arranged start.parts parts)} (fine_is last) (record { own = arranged_named table parts (arranged start.parts parts) (is_arranged start.parts parts) more; children = named.children })
 
-index_gone_named : (look : Look) (name : List ℕ) (table : ObjName) (start state : Altering) → AreAllNamed table start → run look (drop_index name start) ≡ fine state → AreAllNamed table state
+pub index_gone_named : (look : Look) (name : List ℕ) (table : ObjName) (start state : Altering) → AreAllNamed table start → run look (drop_index name start) ≡ fine state → AreAllNamed table state
 unfolding drop_index
 index_gone_named look name table start state named is =
     let (_, there, after_index) = bind_fine look (the_index start.parts name) _ state is in

@@ -28,4 +28,5 @@ mod AlteredPlaces
 mod AlteredStart
 mod AlteredBuilt
 mod AlteredNamed
+mod AlteredNames
 pub mod Altered

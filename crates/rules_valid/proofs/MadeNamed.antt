@@ -54,7 +54,7 @@ use Rattle.rules_valid.proofs.Resolved.{first_named}
 -- ## Lists
 
 -- what each turn keeps at an item that passes holds of the last state, where all items pass
-over_passing : {E S A : Type 0} (P : S → Type 0) (q : A → Bool) (look : Look) (check : S → A → Walk E S) → ((state : S) (x : A) (next : S) → q x ≡ true → P state → run look (check state x) ≡ fine next → P next)
+pub over_passing : {E S A : Type 0} (P : S → Type 0) (q : A → Bool) (look : Look) (check : S → A → Walk E S) → ((state : S) (x : A) (next : S) → q x ≡ true → P state → run look (check state x) ≡ fine next → P next)
     → (state : S) (xs : List A) (end : S) → list_all q xs ≡ true → P state → run look (over check state xs) ≡ fine end → P end
 over_passing P q look check step state [] end all holds is = subst P (fine_is is) holds
 over_passing P q look check step state (x ∷ xs) end all holds is =
@@ -72,7 +72,7 @@ found_passes {X = X} p q (y ∷ ys) x all is =
     on true here is rest = let found : y ≡ x = cc in ap q (sym found) ∙ here
     on false here is rest = rest is
 
-flat_all : {X Y : Type 0} (p : Y → Bool) (q : X → Bool) (f : X → List Y) → ((x : X) → q x ≡ true → list_all p (f x) ≡ true) → (xs : List X) → list_all q xs ≡ true → list_all p (flat_map f xs) ≡ true
+pub flat_all : {X Y : Type 0} (p : Y → Bool) (q : X → Bool) (f : X → List Y) → ((x : X) → q x ≡ true → list_all p (f x) ≡ true) → (xs : List X) → list_all q xs ≡ true → list_all p (flat_map f xs) ≡ true
 flat_all p q f gives [] all = refl
 flat_all p q f gives (x ∷ xs) all =
     let (here, later) = and_parts (q x) (list_all q xs) all in
@@ -272,7 +272,7 @@ foreign_key_named key name columns parent parent_columns =
     and_from (is_name key.name && list_all is_name key.columns && is_object_named key.parent) (list_all is_name key.parent_columns)
     (and_from (is_name key.name && list_all is_name key.columns) (is_object_named key.parent) (and_from (is_name key.name) (list_all is_name key.columns) name columns) parent) parent_columns
 
-foreign_key_keeps : (cat : Catalog) (table : ObjName) → IsValid cat → is_object_named table ≡ true → (parts : TableParts) (words : FkWords) (next : TableParts) → says.is_foreign_key_named words ≡ true → AreNamed table parts
+pub foreign_key_keeps : (cat : Catalog) (table : ObjName) → IsValid cat → is_object_named table ≡ true → (parts : TableParts) (words : FkWords) (next : TableParts) → says.is_foreign_key_named words ≡ true → AreNamed table parts
     → run (all_of cat) (one_foreign_key parts words) ≡ fine next → AreNamed table next
 unfolding one_foreign_key
 foreign_key_keeps cat table valid own parts words next named so_far is =
@@ -300,7 +300,7 @@ foreign_key_keeps cat table valid own parts words next named so_far is =
 
 -- ## Columns
 
-column_has_name : (look : Look) (words : ColumnWords) (column : ColumnDef) → run look (column_of words) ≡ fine column → column.name ≡ words.name
+pub column_has_name : (look : Look) (words : ColumnWords) (column : ColumnDef) → run look (column_of words) ≡ fine column → column.name ≡ words.name
 unfolding column_of
 column_has_name look words column is =
     let (kind, typed, after_type) = bind_fine look (column_type words.name words.kind) _ column is in
@@ -348,7 +348,7 @@ own_if : (b : Bool) (class : IndexClass) (column : List ℕ) → is_name column 
 own_if true class column named = and_from (is_key_named (own_key class column)) true (own_key_named class column named) refl
 own_if false class column named = refl
 
-own_keys_named : (words : ColumnWords) → says.is_column_named words ≡ true → list_all is_key_named (own_keys words) ≡ true
+pub own_keys_named : (words : ColumnWords) → says.is_column_named words ≡ true → list_all is_key_named (own_keys words) ≡ true
 own_keys_named words named =
     list_all-append is_key_named (if words.primary then own_key classes.Primary words.name ∷ [] else []) (if words.unique then own_key classes.Unique words.name ∷ [] else [])
     ∙ and_from (list_all is_key_named (if words.primary then own_key classes.Primary words.name ∷ [] else [])) (list_all is_key_named (if words.unique then own_key classes.Unique words.name ∷ [] else []))

@@ -1,9 +1,10 @@
-ghost use Rattle.std.specs.Prelude.{◌≡◌, ℕ, Bool, true, List, Option};
-ghost use Rattle.std.specs.List.{list_all};
+ghost use Rattle.std.specs.Prelude.{◌≡◌, ℕ, Bool, true, List, [], Option};
+ghost use Rattle.std.specs.List.{list_all, flat_map};
 ghost use Rattle.dd_names.specs.Names.{is_name};
 ghost use Rattle.sql_types.specs.declared.words.ObjRef.{ObjRef};
 ghost use Rattle.sql_ast.specs.Names.{is_object_named, is_element_named, is_pair_named, session_is_named};
 ghost use Rattle.sql_ast.specs.declared.session.SessionState.{SessionState};
+ghost use Rattle.sql_ast.specs.declared.action.AlterAction.{AlterAction};
 ghost use Rattle.sql_ast.specs.declared.element.Element.{Element};
 ghost use Rattle.sql_ast.specs.declared.table.RenamePair.{RenamePair};
 ghost use Rattle.dd_catalog.specs.Catalog.{Catalog, all_of, empty_catalog};
@@ -18,7 +19,8 @@ ghost use Rattle.rules_create.specs.Tables.{create_table};
 ghost use Rattle.rules_tables.specs.Likes.{create_like};
 ghost use Rattle.rules_tables.specs.Truncates.{truncate};
 ghost use Rattle.rules_rename.specs.Renames.{rename};
-ghost use Rattle.rules_alter.specs.Statements.{create_index, drop_index};
+ghost use Rattle.rules_alter.specs.Statements.{alter_table, create_index, drop_index, target_in};
+ghost use Rattle.rules_valid.specs.Altered.{is_action_named};
 ghost use Rattle.rules_valid.specs.Keeps.{KeepsValid, KeepsNamed, MakesOneSpace};
 
 /// The catalog without schemas and objects is valid. It does nothing when it runs.
@@ -54,6 +56,14 @@ pub fn tables_keep_valid()
 pub fn renames_keep_validity()
     ensures kept { (cat : Catalog) (space : ℕ) (session : SessionState) (pairs : List RenamePair) (choice : Choice) → session_is_named session ≡ true → list_all is_pair_named pairs ≡ true
         → IsValid cat → run (all_of cat) (rename session pairs) ≡ fine choice → IsValid (catalog_behind space choice cat) }
+{}
+
+/// ALTER TABLE that says names, and gives the table no new one, leaves a valid catalog valid, and takes one number at most for a
+/// tablespace. It does nothing when it runs.
+pub fn alterations_keep_valid()
+    ensures altered { (session : SessionState) (ref : ObjRef) (acts : List AlterAction) → session_is_named session ≡ true → is_object_named ref ≡ true → list_all is_action_named acts ≡ true
+        → flat_map target_in acts ≡ [] → KeepsValid (alter_table session ref acts) }
+    ensures altered_space { (session : SessionState) (ref : ObjRef) (acts : List AlterAction) → flat_map target_in acts ≡ [] → MakesOneSpace (alter_table session ref acts) }
 {}
 
 /// CREATE INDEX and DROP INDEX that say names leave a valid catalog valid, and take one number at most for a tablespace. It does
