@@ -99,6 +99,7 @@ module _ (s : Option Story) (store : StoreValue) (wanted : Directory) (before af
       })
 
   from_performed : (c : Creation) → IsInFlight s store wanted (before ++ Performed c plan ∷ after) → Writes (c.item ∷ []) plan.records batch next → MayCommit s store.rows batch next
+  unfolding follows
   from_performed c old writes =
       let p = Performed c plan in
       let mine = each_at (IsRightAt wanted) before after p old.each in

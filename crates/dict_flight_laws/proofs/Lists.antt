@@ -117,9 +117,9 @@ clear_put (b ∷ bs) after p q one two it = (
   (λ x y in_x in_y. ⊎_elim
       (λ l. it.0 x y in_x (among y (in_left (all_claims bs) (claims p ++ all_claims after) y l)))
       (λ r. ⊎_elim
-        (λ m. clear_sym y x (one y x m (in_left (claims b) (all_claims bs) x in_x)))
-        (λ a. it.0 x y in_x (among y (in_right (all_claims bs) (claims p ++ all_claims after) y (in_right (claims p) (all_claims after) y a))))
-        (in_either (claims q) (all_claims after) y r))
+      (λ m. clear_sym y x (one y x m (in_left (claims b) (all_claims bs) x in_x)))
+      (λ a. it.0 x y in_x (among y (in_right (all_claims bs) (claims p ++ all_claims after) y (in_right (claims p) (all_claims after) y a))))
+      (in_either (claims q) (all_claims after) y r))
       (in_either (all_claims bs) (claims q ++ all_claims after) y (subst (λ (l : List LogRecord). In l y) (flat_at claims bs after q) in_y))),
   clear_put bs after p q (λ x y in_x in_y. one x y in_x (in_right (claims b) (all_claims bs) y in_y)) two it.1,
 )

@@ -3,4 +3,6 @@
 
 mod laws;
 
-pub use laws::{creations_go_on, plans_go_on, records_go_on, sessions_begin_and_end, wanted_files_are_there};
+pub use laws::{
+    creations_go_on, plans_go_on, records_go_on, sessions_begin_and_end, wanted_files_are_there,
+};

@@ -1,10 +1,11 @@
 -- What the answers of calls come to.
 use Rattle.std.proofs.Common.{◌≡◌, ◌⊎◌, inl, inr, ⊎_elim, ℕ, ◌≤◌, Bool, true, false, List, [], ◌∷◌, ◌++◌, Option, Some, None, refl, sym, ◌∙◌, ap, subst}
-use Rattle.std.specs.Prelude.{◌||◌}
+use Rattle.std.specs.Prelude.{◌||◌, Result, Ok, Err, OnOk}
 use Rattle.std.proofs.lemmas.Bool.{or_parts}
 use Rattle.disk_trait.specs.Change.{Directory}
 use Rattle.disk_trait.specs.Story.{Story, Images}
 use Rattle.disk_trait.specs.Carried.{Leaves}
+use Rattle.row_batch.specs.declared.operation.Operation.{Operation}
 use Rattle.row_batch.specs.Rows.{Rows, applied}
 use Rattle.row_store.specs.Value.{StoreValue}
 use Rattle.ddl_log.specs.declared.records.LogRecord.{LogRecord}
@@ -12,6 +13,7 @@ use Rattle.ddl_log.specs.Records.{IsRecord}
 use Rattle.ddl_log.specs.Effect.{by_id}
 use Rattle.log_rows.specs.Logs.{IsLog, put_row, delete_row}
 use Rattle.log_rows.proofs.Logs.{log_with, log_without}
+use Rattle.dict_store.specs.declared.fault.StoreFault.{StoreFault}
 use Rattle.dict_store_laws.specs.System.{is_system, IsOrdinary}
 use Rattle.dict_store_laws.specs.Recovers.{Holds, HoldsEither}
 use Rattle.dict_store_laws.specs.Kept.{Work, IsKept}
@@ -51,3 +53,28 @@ replayed_own s store work item bytes kept may system =
     let own = item_ordinary s store work kept item may.first in
     let none : (is_system item.old_path || is_system item.new_path) ≡ false = rw (own.old_path, own.new_path) refl in
     let no : true ≡ false = sym system ∙ none in cc
+
+-- ## A commit of a batch of one record
+
+pub leaves_as : (before now : ℕ) (s t : Option Story) (rows : Rows) (wanted next : Directory) (batch other : List Operation) → batch ≡ other
+    → Leaves before now s t (HoldsEither rows wanted (applied batch rows) next) → Leaves before now s t (HoldsEither rows wanted (applied other rows) next)
+leaves_as before now s t rows wanted next batch other same it = subst (λ (b : List Operation). Leaves before now s t (HoldsEither rows wanted (applied b rows) next)) same it
+
+pub commits_as : (s : Option Story) (rows : Rows) (batch other : List Operation) (next : Work) → batch ≡ other → MayCommit s rows other next → MayCommit s rows batch next
+commits_as s rows batch other next same it = subst (λ (b : List Operation). MayCommit s rows b next) (sym same) it
+
+abbrev Keeps : Option Story → Option Story → StoreValue → StoreValue → List Operation → Type 0
+Keeps s t store grown batch = (work next : Work) → IsKept s store work → MayCommit s store.rows batch next → IsKept t grown next
+
+module _ (s t : Option Story) (store grown : StoreValue) (item : LogRecord) (batch : List Operation) where
+  pub prepare_kept : (r : Result (Unit {0}) StoreFault) → IsRecord item → batch ≡ put_row item ∷ [] → OnOk r (Keeps s t store grown batch)
+      → OnOk r ((work : Work) (items : List LogRecord) → IsKept s store work → MayPrepare item work items → IsKept t grown (with_records work items work.finished))
+  prepare_kept (Ok done) is same it = λ work items kept may.
+      it work (with_records work items work.finished) kept (commits_as s store.rows batch (put_row item ∷ []) (with_records work items work.finished) same (prepare_commits s store work kept item items is may))
+  prepare_kept (Err fault) is same it = tt
+
+  pub remove_kept : (r : Result (Unit {0}) StoreFault) → batch ≡ delete_row item ∷ [] → OnOk r (Keeps s t store grown batch)
+      → OnOk r ((work : Work) (items finished : List LogRecord) → IsKept s store work → MayRemove item work items finished → IsKept t grown (with_records work items finished))
+  remove_kept (Ok done) same it = λ work items finished kept may.
+      it work (with_records work items finished) kept (commits_as s store.rows batch (delete_row item ∷ []) (with_records work items finished) same (remove_commits s store work kept item items finished may))
+  remove_kept (Err fault) same it = tt
