@@ -1,5 +1,5 @@
 -- A session's plan is committed.
-use Rattle.std.proofs.Common.{◌≡◌, ◌⊎◌, inl, inr, ⊎_elim, ℕ, List, [], ◌∷◌, ◌++◌, Option, Some, None, refl, sym, ◌∙◌, ap, subst}
+use Rattle.std.proofs.Common.{◌≡◌, inl, ℕ, List, [], ◌∷◌, ◌++◌, Option, Some, None, refl, sym, ◌∙◌, ap, subst}
 use Rattle.std.specs.List.{flat_map}
 use Rattle.disk_trait.specs.Change.{Directory}
 use Rattle.disk_trait.specs.Story.{Story}
@@ -14,7 +14,7 @@ use Rattle.dict_store_laws.specs.Plans.{LeadsTo, Follows, Writes}
 use Rattle.dict_store_laws.proofs.Commits.{may_exchange, may_create}
 use Rattle.dict_flight_laws.specs.Phases.{Plan, Creation, Phase, Idle, Planned, Prepared, Performed, Left, Replayed, items_of, file_of, records_of, made_by, owned, claims, finished, made, all_claims, log, work_of}
 use Rattle.dict_flight_laws.specs.Flight.{In, AreClear, ClaimsOrdinary, MayMakeAt, IsRightPlan, IsRightAt, IsInFlight, IsReady}
-use Rattle.dict_flight_laws.proofs.Lists.{in_left, in_right, all_apart_of, clear_of_part, clear_join, part_of_all, flat_at, flat_same, clear_at, each_at}
+use Rattle.dict_flight_laws.proofs.Lists.{in_right, all_apart_of, clear_of_part, clear_join, part_of_all, flat_at, flat_same, clear_at, each_at}
 use Rattle.dict_flight_laws.proofs.Orders.{exchanged, clear_free}
 use Rattle.dict_flight_laws.proofs.Places.{owned_claimed, finished_claimed, with_one, assemble}
 use Rattle.dict_flight_laws.proofs.Elsewhere.{all_still, all_agree}

@@ -1,5 +1,5 @@
 -- A commit changes no file that another session's records name, so what holds of that session stays.
-use Rattle.std.proofs.Common.{◌≡◌, ◌⊎◌, inl, inr, ⊎_elim, ℕ, Bool, true, false, cond, List, [], ◌∷◌, ◌++◌, Option, Some, None, refl, sym, ◌∙◌, ap, subst}
+use Rattle.std.proofs.Common.{◌≡◌, ◌⊎◌, inl, inr, ⊎_elim, ℕ, true, false, cond, List, [], ◌∷◌, ◌++◌, Option, Some, None, refl, sym, ◌∙◌, ap, subst}
 use Rattle.std.proofs.Math.Path.{fun_ext}
 use Rattle.std.specs.Str.{bytes_eq}
 use Rattle.disk_trait.specs.Change.{Directory}
@@ -7,12 +7,12 @@ use Rattle.disk_trait.proofs.Paths.{bytes_eq-same, update-off}
 use Rattle.ddl_log.specs.declared.records.Kind.{Kind}
 use Rattle.ddl_log.specs.declared.records.Kind.TheVariants.{DeleteSpace, RenameSpace, WriteSdi}
 use Rattle.ddl_log.specs.declared.records.LogRecord.{LogRecord}
-use Rattle.ddl_log.specs.Effect.{effect, IsApart, IsFree, IsOff, WantsSame, Agrees}
+use Rattle.ddl_log.specs.Effect.{effect, IsFree, IsOff, WantsSame, Agrees}
 use Rattle.ddl_log.proofs.Effects.{free, old_beside, one_of_two, same_effect, agree, OldIn}
-use Rattle.post_ddl.specs.Replays.{HasBytes, IsGiven}
+use Rattle.post_ddl.specs.Replays.{IsGiven}
 use Rattle.dict_store_laws.specs.Plans.{LeadsTo, with_file}
 use Rattle.dict_flight_laws.specs.Phases.{Plan, Creation, Phase, Idle, Planned, Prepared, Performed, Left, Replayed, items_of, file_of, records_of, claims, all_claims}
-use Rattle.dict_flight_laws.specs.Flight.{In, AreClear, AreGiven, MayMakeAt, Fits, IsLocal, IsRightPlan, IsRightAt, Each}
+use Rattle.dict_flight_laws.specs.Flight.{In, AreClear, AreGiven, MayMakeAt, IsLocal, IsRightPlan, IsRightAt, Each}
 use Rattle.dict_flight_laws.proofs.Lists.{in_left, in_right, apart_of, clear_sym, clear_of_part}
 use Rattle.dict_flight_laws.proofs.Orders.{clear_free, free_parts}
 

@@ -6,7 +6,7 @@ use Rattle.disk_trait.proofs.Follows.{apart-sym}
 use Rattle.ddl_log.specs.declared.records.Kind.{Kind}
 use Rattle.ddl_log.specs.declared.records.Kind.TheVariants.{DeleteSpace, RenameSpace, WriteSdi}
 use Rattle.ddl_log.specs.declared.records.LogRecord.{LogRecord}
-use Rattle.ddl_log.specs.Effect.{IsOff, IsFree, IsBeside, AreBeside, IsApart}
+use Rattle.ddl_log.specs.Effect.{IsBeside, AreBeside, IsApart}
 use Rattle.dict_store_laws.specs.Plans.{AreApart}
 use Rattle.dict_flight_laws.specs.Phases.{Phase, claims, all_claims}
 use Rattle.dict_flight_laws.specs.Flight.{In, AreClear, AllClear, Each}

@@ -1,5 +1,5 @@
 -- The steps of a session but its commit.
-use Rattle.std.proofs.Common.{◌≡◌, ◌⊎◌, inl, inr, ⊎_elim, ℕ, zero, suc, true, false, List, [], ◌∷◌, ◌++◌, Option, Some, None, refl, sym, ◌∙◌, ap, subst}
+use Rattle.std.proofs.Common.{◌≡◌, inl, inr, ⊎_elim, ℕ, zero, suc, true, false, List, [], ◌∷◌, ◌++◌, Option, Some, None, refl, sym, ◌∙◌, ap, subst}
 use Rattle.std.specs.List.{flat_map}
 use Rattle.disk_trait.specs.Change.{Directory}
 use Rattle.disk_trait.specs.Story.{Story, Images}
@@ -7,18 +7,18 @@ use Rattle.row_store.specs.Value.{StoreValue}
 use Rattle.ddl_log.specs.declared.records.Kind.{Kind}
 use Rattle.ddl_log.specs.declared.records.Kind.TheVariants.{DeleteSpace}
 use Rattle.ddl_log.specs.declared.records.LogRecord.{LogRecord}
-use Rattle.ddl_log.specs.Effect.{by_id, Differs, IsOff, IsFree, IsApart}
+use Rattle.ddl_log.specs.Effect.{by_id, IsFree, IsApart}
 use Rattle.ddl_log.proofs.Effects.{old_beside, old_free}
 use Rattle.dict_store_laws.specs.System.{IsOrdinary, is_system}
 use Rattle.post_ddl.specs.Replays.{IsGiven}
 use Rattle.dict_store_laws.specs.Recovers.{IsLastAt}
 use Rattle.dict_store_laws.specs.Kept.{File, Work, IsKept, AreThere, AreOwn}
-use Rattle.dict_store_laws.specs.Steps.{IsWith, IsFirst, MayMake, MayPrepare, MayRemove, MayReplay, with_made, with_records}
+use Rattle.dict_store_laws.specs.Steps.{IsWith, MayMake, MayPrepare, MayRemove, MayReplay, with_made, with_records}
 use Rattle.dict_store_laws.proofs.Phases.{accounted, own_front, own_both, there_front, there_both}
 use Rattle.dict_flight_laws.specs.Phases.{Creation, Plan, Phase, Idle, Planned, Prepared, Performed, Left, Replayed, items_of, records_of, made_by, owned, claims, finished, made, all_claims, log, work_of, idles}
 use Rattle.dict_flight_laws.specs.Flight.{In, AreClear, AllClear, Each, ClaimsOrdinary, MayMakeAt, IsRightPlan, IsRightAt, IsInFlight}
-use Rattle.dict_flight_laws.proofs.Lists.{in_left, in_right, flat_at, flat_same, clear_at, clear_put, each_at, each_put, each_of}
-use Rattle.dict_flight_laws.proofs.Places.{owned_claimed, apart_before, apart_both, apart_finished, off_made, names_none_of, none_of, with_one, first_of, as_work, as_lists, each_same, moved}
+use Rattle.dict_flight_laws.proofs.Lists.{flat_at, flat_same, clear_put, each_at, each_put}
+use Rattle.dict_flight_laws.proofs.Places.{apart_before, apart_both, apart_finished, off_made, names_none_of, none_of, with_one, first_of, as_work, as_lists, each_same, moved}
 
 -- a file that was made may be given up
 forget : (s : Option Story) (store : StoreValue) (work : Work) (file : File) (made : List File) → IsKept s store work → IsWith file made work.made → IsKept s store (with_made work made)

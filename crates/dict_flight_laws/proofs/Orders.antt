@@ -1,10 +1,10 @@
 -- A session's records are exchanged among those of the others.
-use Rattle.std.proofs.Common.{◌≡◌, ◌⊎◌, inl, inr, ⊎_elim, ℕ, List, [], ◌∷◌, ◌++◌, refl, sym, ◌∙◌, ap, subst}
+use Rattle.std.proofs.Common.{inl, inr, ℕ, List, [], ◌∷◌, ◌++◌, refl}
 use Rattle.std.specs.List.{AllByRecursion}
 use Rattle.ddl_log.specs.declared.records.Kind.{Kind}
 use Rattle.ddl_log.specs.declared.records.Kind.TheVariants.{DeleteSpace, RenameSpace, WriteSdi}
 use Rattle.ddl_log.specs.declared.records.LogRecord.{LogRecord}
-use Rattle.ddl_log.specs.Effect.{IsOff, IsFree, IsApart}
+use Rattle.ddl_log.specs.Effect.{IsFree, IsApart}
 use Rattle.ddl_log.proofs.Effects.{old_free}
 use Rattle.dict_store_laws.specs.System.{IsOrdinary}
 use Rattle.dict_store_laws.specs.Recovers.{IsLastAt, AreLast, IsOrderly}

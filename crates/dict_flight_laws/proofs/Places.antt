@@ -1,17 +1,17 @@
 -- One session's records among those of the others.
-use Rattle.std.proofs.Common.{◌≡◌, ◌⊎◌, inl, inr, ⊎_elim, ℕ, List, [], ◌∷◌, ◌++◌, Option, Some, None, refl, sym, ◌∙◌, ap, subst}
+use Rattle.std.proofs.Common.{◌≡◌, ◌⊎◌, inl, inr, ⊎_elim, ℕ, List, [], ◌∷◌, ◌++◌, Option, refl, sym, ◌∙◌, ap, subst}
 use Rattle.std.specs.List.{flat_map}
 use Rattle.disk_trait.specs.Change.{Directory}
 use Rattle.disk_trait.specs.Story.{Story}
 use Rattle.row_store.specs.Value.{StoreValue}
 use Rattle.ddl_log.specs.declared.records.LogRecord.{LogRecord}
-use Rattle.ddl_log.specs.Effect.{Differs, IsOff, IsFree, IsApart}
-use Rattle.ddl_log.proofs.Effects.{old_beside, old_free}
+use Rattle.ddl_log.specs.Effect.{Differs, IsOff, IsApart}
+use Rattle.ddl_log.proofs.Effects.{old_free}
 use Rattle.dict_store_laws.specs.Kept.{File, Work, NamesNone, IsNone, IsKept}
-use Rattle.dict_store_laws.specs.Steps.{IsWith, IsFirst, with_records, with_made}
-use Rattle.dict_flight_laws.specs.Phases.{Phase, Idle, Planned, Prepared, Performed, Left, Replayed, owned, claims, finished, made, made_by, all_claims, log, work_of}
-use Rattle.dict_flight_laws.specs.Flight.{In, AreClear, AllClear, Each, ClaimsOrdinary, IsRightAt, IsInFlight}
-use Rattle.dict_flight_laws.proofs.Lists.{in_left, in_right, in_either, apart_of, clear_sym, clear_part, part_of_all, flat_at, flat_same, clear_at, clear_put, each_at, each_put, each_of}
+use Rattle.dict_store_laws.specs.Steps.{IsWith, IsFirst}
+use Rattle.dict_flight_laws.specs.Phases.{Phase, Idle, Planned, Prepared, Performed, Left, Replayed, owned, claims, finished, made, all_claims, log, work_of}
+use Rattle.dict_flight_laws.specs.Flight.{In, AllClear, Each, ClaimsOrdinary, IsRightAt, IsInFlight}
+use Rattle.dict_flight_laws.proofs.Lists.{in_left, in_right, in_either, apart_of, clear_sym, clear_part, part_of_all, flat_at, clear_at, clear_put, each_at, each_put, each_of}
 
 -- ## What a session has is among its claims
 

@@ -11,7 +11,7 @@ use Rattle.dict_store_laws.specs.System.{IsOrdinary}
 use Rattle.dict_store_laws.specs.Recovers.{AreLast}
 use Rattle.dict_store_laws.specs.Kept.{IsKept}
 use Rattle.dict_store_laws.specs.Plans.{LeadsTo}
-use Rattle.dict_flight_laws.specs.Phases.{Creation, Plan, Phase, Idle, Planned, Prepared, Performed, Left, Replayed, items_of, file_of, records_of, claims, all_claims, work_of}
+use Rattle.dict_flight_laws.specs.Phases.{Creation, Plan, Phase, Idle, Planned, Prepared, Performed, Left, Replayed, file_of, records_of, claims, all_claims, work_of}
 
 abbrev pub In : {A : Type 0} → List A → A → Type 0
 In [] x = ⊥

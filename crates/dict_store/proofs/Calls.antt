@@ -1,9 +1,9 @@
 -- What the answers of calls come to.
-use Rattle.std.proofs.Common.{◌≡◌, ◌⊎◌, inl, inr, ⊎_elim, ℕ, ◌≤◌, Bool, true, false, List, [], ◌∷◌, ◌++◌, Option, Some, None, refl, sym, ◌∙◌, ap, subst}
+use Rattle.std.proofs.Common.{◌≡◌, ℕ, true, false, List, [], ◌∷◌, Option, refl, sym, ◌∙◌, ap, subst}
 use Rattle.std.specs.Prelude.{◌||◌, Result, Ok, Err, OnOk}
 use Rattle.std.proofs.lemmas.Bool.{or_parts}
 use Rattle.disk_trait.specs.Change.{Directory}
-use Rattle.disk_trait.specs.Story.{Story, Images}
+use Rattle.disk_trait.specs.Story.{Story}
 use Rattle.disk_trait.specs.Carried.{Leaves}
 use Rattle.row_batch.specs.declared.operation.Operation.{Operation}
 use Rattle.row_batch.specs.Rows.{Rows, applied}
@@ -15,7 +15,7 @@ use Rattle.log_rows.specs.Logs.{IsLog, put_row, delete_row}
 use Rattle.log_rows.proofs.Logs.{log_with, log_without}
 use Rattle.dict_store.specs.declared.fault.StoreFault.{StoreFault}
 use Rattle.dict_store_laws.specs.System.{is_system, IsOrdinary}
-use Rattle.dict_store_laws.specs.Recovers.{Holds, HoldsEither}
+use Rattle.dict_store_laws.specs.Recovers.{HoldsEither}
 use Rattle.dict_store_laws.specs.Kept.{Work, IsKept}
 use Rattle.dict_store_laws.specs.Steps.{MayCommit, MayMake, MayPrepare, MayRemove, MayReplay, with_records}
 use Rattle.dict_store_laws.proofs.Phases.{may_prepare, may_remove, item_ordinary}

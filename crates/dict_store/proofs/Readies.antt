@@ -1,6 +1,5 @@
 -- The test of a store that may commit, as a fact, and how it stays.
-use Rattle.std.proofs.Common.{◌≡◌, ℕ, ◌+◌, ◌≤◌, Bool, true, false, ◌&&◌, List, length, Option, Some, None, is_none, refl, sym, ◌∙◌, ap, subst}
-use Rattle.std.specs.Prelude.{nat_le}
+use Rattle.std.proofs.Common.{◌≡◌, ℕ, ◌+◌, ◌≤◌, true, false, List, length, Option, Some, None, is_none, refl, sym, ◌∙◌, ap, subst}
 use Rattle.std.proofs.lemmas.Bool.{and_parts, and_from, leb-true, le-leb}
 use Rattle.disk_trait.specs.Change.{Directory}
 use Rattle.disk_trait.specs.Story.{Story, WhereTold, reads}
@@ -10,7 +9,6 @@ use Rattle.row_journal.specs.Append.{HasGate}
 use Rattle.ddl_log.specs.declared.records.Kind.{Kind}
 use Rattle.ddl_log.specs.declared.records.Kind.TheVariants.{DeleteSpace, RenameSpace, WriteSdi}
 use Rattle.ddl_log.specs.declared.records.LogRecord.{LogRecord}
-use Rattle.ddl_log.specs.Effect.{IsOff}
 use Rattle.ddl_log.proofs.Effects.{is_under}
 use Rattle.post_ddl.specs.Replays.{Does, HasBytes, IsGiven}
 use Rattle.dict_store_laws.specs.System.{system_path, is_system, IsOrdinary}

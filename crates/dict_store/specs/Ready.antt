@@ -1,5 +1,5 @@
 -- A store that isn't halted may commit: no append has failed, and its file has a gate where the journal ends.
-use Rattle.std.specs.Prelude.{◌≡◌, ℕ, ◌+◌, nat_le, Bool, true, false, ◌&&◌, List, length, Option, Some, None, is_none}
+use Rattle.std.specs.Prelude.{ℕ, ◌+◌, nat_le, Bool, true, false, ◌&&◌, List, length, Option, Some, None, is_none}
 use Rattle.disk_trait.specs.Story.{Story, reads}
 use Rattle.row_journal.specs.Value.{JournalValue}
 

@@ -1,10 +1,9 @@
 -- What a commit leaves, and which plans may be committed.
-use Rattle.std.proofs.Common.{◌≡◌, ◌⊎◌, inl, inr, ⊎_elim, ℕ, Bool, true, false, List, [], ◌∷◌, ◌++◌, Option, Some, None, refl, sym, ◌∙◌, ap, subst}
+use Rattle.std.proofs.Common.{◌≡◌, inl, inr, ⊎_elim, ℕ, true, false, List, [], ◌∷◌, ◌++◌, Option, Some, None, sym, ◌∙◌, subst}
 use Rattle.std.specs.List.{AllByRecursion}
 use Rattle.disk_trait.specs.Change.{Directory}
 use Rattle.disk_trait.specs.Story.{Story, Images}
 use Rattle.disk_trait.specs.Carried.{Off, Leaves, Carries}
-use Rattle.disk_trait.proofs.Paths.{paths}
 use Rattle.disk_trait.proofs.Follows.{apart-sym}
 use Rattle.row_batch.specs.declared.operation.Operation.{Operation}
 use Rattle.row_batch.specs.Rows.{Rows, applied}
@@ -14,15 +13,15 @@ use Rattle.ddl_log.specs.declared.records.LogRecord.{LogRecord}
 use Rattle.ddl_log.specs.Effect.{by_id, Differs, IsFree, Agrees}
 use Rattle.log_rows.specs.Logs.{IsLog}
 use Rattle.log_rows.proofs.Logs.{follows_log}
-use Rattle.dict_store_laws.specs.System.{system_path, is_system, IsOrdinary, IsRight}
-use Rattle.dict_store_laws.specs.Recovers.{Holds, HoldsEither, IsOrderly}
+use Rattle.dict_store_laws.specs.System.{system_path, is_system, IsOrdinary}
+use Rattle.dict_store_laws.specs.Recovers.{Holds, HoldsEither}
 use Rattle.dict_store_laws.specs.Kept.{File, Work, AreDone, AreThere, AreOwn, IsFit, IsSoFar, IsKept}
-use Rattle.dict_store_laws.specs.Steps.{IsWith, MayCommit}
-use Rattle.dict_store_laws.specs.Plans.{LeadsTo, AreApart, Follows, Writes, MayExchange, MayCreate}
+use Rattle.dict_store_laws.specs.Steps.{MayCommit}
+use Rattle.dict_store_laws.specs.Plans.{Follows, Writes, MayExchange, MayCreate}
 use Rattle.dict_store_laws.proofs.Stripped.{system_is, system_differs, off_system, right_same}
 use Rattle.dict_store_laws.proofs.Planned.{right_planned, right_made, done_agrees, done_off}
 use Rattle.dict_store_laws.proofs.Leaving.{leaves_by}
-use Rattle.dict_store_laws.proofs.Phases.{as_items, is_apart, free_back, there_front, there_both, own_front, own_both, kept_holds, rows_there}
+use Rattle.dict_store_laws.proofs.Phases.{as_items, is_apart, free_back, there_front, there_both, own_front, own_both}
 
 -- ## A change of the system file
 

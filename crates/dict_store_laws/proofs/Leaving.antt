@@ -1,10 +1,8 @@
 -- From what a run of calls makes of each image to what a crash leaves.
-use Rattle.std.proofs.Common.{◌≡◌, ◌⊎◌, inl, inr, ⊎_elim, ℕ, ◌≤◌, Option, Some, None, refl, sym, ◌∙◌, subst, List}
+use Rattle.std.proofs.Common.{◌≡◌, inl, inr, ⊎_elim, ℕ, ◌≤◌, Option, Some, None, sym, ◌∙◌, subst, List}
 use Rattle.disk_trait.specs.Change.{Directory}
 use Rattle.disk_trait.specs.Story.{Story, WhereTold, Images, Since, reads}
 use Rattle.disk_trait.specs.Carried.{Leaves, Comes, Carries, Turns, IsSettled}
-use Rattle.row_batch.specs.Rows.{Rows}
-use Rattle.row_journal.specs.Value.{EndsAt}
 use Rattle.row_store.specs.Value.{StoreValue, IsRowsFile}
 use Rattle.row_store.specs.Opening.{Opens}
 use Rattle.row_store.specs.OnDisk.{HasRows, IsOnDisk}

@@ -1,5 +1,5 @@
 -- What the steps of a session leave: the record of a creation, its file, the operation of a record, and its removal.
-use Rattle.std.proofs.Common.{◌≡◌, ◌⊎◌, inl, inr, ℕ, Bool, true, false, if◌then◌else◌, List, [], ◌∷◌, ◌++◌, Option, Some, None, refl, sym, ◌∙◌, ap, subst}
+use Rattle.std.proofs.Common.{◌≡◌, ℕ, Bool, false, if◌then◌else◌, List, [], ◌∷◌, ◌++◌, Option, Some, None, refl, sym, ◌∙◌, ap, subst}
 use Rattle.std.specs.List.{AllByRecursion}
 use Rattle.disk_trait.specs.Change.{Directory}
 use Rattle.disk_trait.specs.Story.{Story, Images, reads, IsSoundStory}
@@ -7,21 +7,21 @@ use Rattle.disk_trait.proofs.Acts.{reads_now}
 use Rattle.disk_trait.specs.Carried.{Off, Leaves, Comes, Carries, Turns}
 use Rattle.disk_trait.proofs.Follows.{apart-sym}
 use Rattle.row_batch.specs.declared.operation.Operation.{Operation}
-use Rattle.row_batch.specs.Rows.{Rows, applied}
+use Rattle.row_batch.specs.Rows.{applied}
 use Rattle.row_store.specs.Value.{StoreValue}
 use Rattle.row_store.specs.OnDisk.{HasRows}
 use Rattle.ddl_log.specs.declared.records.Kind.{Kind}
 use Rattle.ddl_log.specs.declared.records.Kind.TheVariants.{DeleteSpace, RenameSpace, WriteSdi}
 use Rattle.ddl_log.specs.declared.records.LogRecord.{LogRecord}
-use Rattle.ddl_log.specs.Effect.{effect_of, Differs, IsBeside, IsOff, IsFree, AreBeside, IsApart, IsDone, IsUnder}
+use Rattle.ddl_log.specs.Effect.{Differs, IsBeside, IsOff, IsFree, AreBeside, IsApart, IsDone, IsUnder}
 use Rattle.ddl_log.proofs.Effects.{free, is_done, is_under, old_beside}
 use Rattle.post_ddl.specs.Replays.{Does}
 use Rattle.log_rows.specs.Logs.{IsLog}
 use Rattle.dict_store_laws.specs.System.{system_path, is_system, stripped, IsOrdinary, IsRight}
 use Rattle.dict_store_laws.specs.Recovers.{IsLastAt, AreLast, IsOrderly, Holds}
 use Rattle.dict_store_laws.specs.Kept.{File, Work, AreDone, AreThere, AreOwn, NamesNone, IsNone, IsFit, IsSoFar, IsKept}
-use Rattle.dict_store_laws.specs.Steps.{IsWith, IsFirst, MayCommit, MayPrepare, MayMake, MayReplay, MayRemove, with_records, with_made}
-use Rattle.dict_store_laws.proofs.Stripped.{system_is, system_differs, off_system, right_under, right_done, right_added, right_covered, each_front, each_back, each_both, one_of, without_one, with_one}
+use Rattle.dict_store_laws.specs.Steps.{IsWith, IsFirst, MayCommit, MayPrepare, MayMake, MayRemove, with_records, with_made}
+use Rattle.dict_store_laws.proofs.Stripped.{system_is, system_differs, off_system, right_under, right_done, right_added, right_covered, one_of, without_one, with_one}
 use Rattle.dict_store_laws.proofs.Planned.{done_absent, apart_first, done_apart}
 use Rattle.dict_store_laws.proofs.Leaving.{leaves_by, has_rows, stays_on}
 

@@ -1,14 +1,12 @@
 -- How a directory stays right as the records of a plan come, and what done records ask for.
-use Rattle.std.proofs.Common.{◌≡◌, ◌⊎◌, inl, inr, ℕ, Bool, false, if◌then◌else◌, List, [], ◌∷◌, ◌++◌, Option, Some, None, refl, sym, ◌∙◌, ap}
+use Rattle.std.proofs.Common.{◌≡◌, inl, inr, ℕ, Bool, false, if◌then◌else◌, List, [], ◌∷◌, ◌++◌, Some, None, refl, sym, ◌∙◌, ap}
 use Rattle.std.proofs.Math.Path.{fun_ext}
-use Rattle.std.specs.Map.{update}
-use Rattle.std.specs.Str.{bytes_eq}
 use Rattle.disk_trait.specs.Change.{Directory, unlinked}
 use Rattle.disk_trait.proofs.Paths.{bytes_eq-same, by_path, update-here, update-off}
 use Rattle.ddl_log.specs.declared.records.Kind.{Kind}
 use Rattle.ddl_log.specs.declared.records.Kind.TheVariants.{DeleteSpace, RenameSpace, WriteSdi}
 use Rattle.ddl_log.specs.declared.records.LogRecord.{LogRecord}
-use Rattle.ddl_log.specs.Effect.{effect_at, effect_of, effect, Differs, IsBeside, IsOff, IsFree, AreBeside, IsApart, WantsSame, Agrees, IsDone}
+use Rattle.ddl_log.specs.Effect.{effect_at, effect_of, effect, Differs, IsOff, IsFree, AreBeside, IsApart, WantsSame, Agrees, IsDone}
 use Rattle.ddl_log.proofs.Effects.{off_record, local, free, in_turn, commutes, same_effect, put_last, one_of_two, beside_old}
 use Rattle.dict_store_laws.specs.System.{is_system, stripped, IsRight}
 use Rattle.dict_store_laws.specs.Plans.{with_file, LeadsTo, AreApart}

@@ -1,5 +1,5 @@
 -- A file that is to be written anew is there in what each crash leaves, since no other record names it.
-use Rattle.std.proofs.Common.{◌≡◌, ◌⊎◌, inl, inr, ℕ, Bool, true, false, if◌then◌else◌, List, [], ◌∷◌, ◌++◌, Option, Some, None, is_some, refl, sym, ◌∙◌, ap, subst}
+use Rattle.std.proofs.Common.{◌≡◌, ℕ, Bool, true, false, if◌then◌else◌, List, [], ◌∷◌, ◌++◌, Option, Some, None, is_some, refl, sym, ◌∙◌, ap, subst}
 use Rattle.disk_trait.specs.Change.{Directory}
 use Rattle.disk_trait.specs.Story.{Story, Images, reads, IsSoundStory}
 use Rattle.disk_trait.proofs.Paths.{update-here}
@@ -15,7 +15,7 @@ use Rattle.post_ddl.specs.Replays.{IsGiven, IsSteady, IsSteadyAt}
 use Rattle.dict_store_laws.specs.System.{is_system, stripped, IsRight}
 use Rattle.dict_store_laws.specs.Recovers.{IsLastAt, AreLast}
 use Rattle.dict_store_laws.specs.Kept.{Work, IsKept}
-use Rattle.dict_store_laws.specs.Steps.{IsFirst, MayReplay}
+use Rattle.dict_store_laws.specs.Steps.{MayReplay}
 use Rattle.dict_store_laws.proofs.Phases.{item_ordinary}
 
 there : (bytes : List ℕ) (file : Option (List ℕ)) → Some bytes ≡ anew (Some bytes) file → is_some file ≡ true

@@ -1,5 +1,5 @@
 -- The system files, and the other files of a directory.
-use Rattle.std.specs.Prelude.{◌≡◌, ℕ, Bool, false, ◌||◌, List, Option, None, if◌then◌else◌, codes}
+use Rattle.std.specs.Prelude.{◌≡◌, ℕ, Bool, false, ◌||◌, List, None, if◌then◌else◌, codes}
 use Rattle.std.specs.Str.{bytes_eq}
 use Rattle.disk_trait.specs.Change.{Directory}
 use Rattle.ddl_log.specs.declared.records.LogRecord.{LogRecord}

@@ -1,5 +1,5 @@
 -- What records have under keys, and how that follows batches.
-use Rattle.std.proofs.Common.{◌≡◌, ◌⊎◌, inl, inr, ℕ, ◌+◌, ◌<◌, ◌^◌, Bool, true, false, cond, ◌&&◌, ◌||◌, List, [], ◌∷◌, ◌++◌, Option, Some, None, is_some, refl, sym, ◌∙◌, ap, subst, arith}
+use Rattle.std.proofs.Common.{◌≡◌, inl, inr, ℕ, ◌<◌, ◌^◌, Bool, true, false, cond, ◌||◌, List, [], ◌∷◌, ◌++◌, Option, Some, None, is_some, refl, sym, ◌∙◌, ap, subst, arith}
 use Rattle.std.specs.Prelude.{nat_lt}
 use Rattle.std.specs.Int.{w64, to_be_bytes, from_be_bytes}
 use Rattle.std.specs.List.{AllByRecursion}
@@ -8,10 +8,9 @@ use Rattle.std.specs.FinMap as finite_map
 use Rattle.std.proofs.lemmas.Bool.{cases_Bool, cases_order, and_parts, and_from, ltb-true, lt-ltb}
 use Rattle.std.proofs.lemmas.Nat.{from_be_bytes-to_be_bytes_8}
 use Rattle.row_batch.specs.declared.operation.Operation.{Operation}
-use Rattle.row_batch.specs.declared.operation.Operation.TheVariants.{Delete, Put}
 use Rattle.row_batch.specs.Order.{key_cmp, in_order}
 use Rattle.row_batch.specs.Rows.{Rows, no_rows, is_key, applied}
-use Rattle.row_batch.specs.Meaning.{made_of, put_of, last_put, deletes, is_deleted}
+use Rattle.row_batch.specs.Meaning.{made_of, last_put, is_deleted}
 use Rattle.row_batch.proofs.Meanings.{is_key_same, is_key_itself, made_applied, last_put_more, deleted_more}
 use Rattle.ddl_log.specs.declared.records.LogRecord.{LogRecord}
 use Rattle.ddl_log.specs.Records.{IsRecord, record_bytes}
