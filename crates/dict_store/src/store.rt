@@ -1,8 +1,10 @@
-ghost use Rattle.std.specs.Prelude.{◌≡◌, ◌≤◌, ◌+◌, true, ℕ, List, [], ◌∷◌, Some, None, Option, Err, OnOk, IfErr};
+ghost use Rattle.std.specs.Prelude.{◌≡◌, ◌<◌, ◌≤◌, ◌+◌, true, length, MatchResult, ℕ, List, [], ◌∷◌, Some, None, Option, Err, OnOk, IfErr};
 ghost use Rattle.disk_trait.specs.Story.{WhereTold, Images};
 ghost use Rattle.disk_trait.specs.Carried.{Leaves};
 ghost use Rattle.row_journal.specs.Append.{HasGate};
 ghost use Rattle.row_batch.specs.Rows.{applied};
+ghost use Rattle.row_store.specs.Answer.{IsGot, IsKept as HasKey, IsMemory, IsScanned};
+ghost use Rattle.row_store.specs.Place.{rows_left};
 ghost use Rattle.ddl_log.specs.declared.records.LogRecord.{LogRecord as Item};
 ghost use Rattle.ddl_log.specs.Records.{IsRecord};
 ghost use Rattle.log_rows.specs.Logs.{put_row, delete_row};
@@ -21,7 +23,7 @@ use ddl_log::LogRecord;
 use disk_trait::Disk;
 use post_ddl::replay;
 use row_batch::Batch;
-use row_store::{Committed, RowStore};
+use row_store::{Committed, Got, RowFault, RowStore, Scan, Scanned, Search};
 use std::alloc::Global;
 
 /// A dictionary on a disk, which it owns: its rows, with the log of file operations among them, and the files.
@@ -75,6 +77,22 @@ impl<D: Disk> Store<D> {
         ensures { result ≡ self.now.halted }
     {
         self.halted
+    }
+
+    /// The value under the key of a search, as `RowStore::get` gives it.
+    pub fn get(&mut self, search: &mut Search) -> Result<Got, RowFault>
+        ensures got { MatchResult result (λ got. IsGot got search.old self.old.rows.rows) (λ fault. IsMemory fault × HasKey search.old self.old.rows.rows) }
+        ensures same { (self.new.disk ≡ self.old.disk) × (self.new.rows ≡ self.old.rows) × (self.new.halted ≡ self.old.halted) × (search.new ≡ search.old) }
+    {
+        self.rows.get(&mut self.disk, search)
+    }
+
+    /// The next rows of a scan, as `RowStore::scan` gives them.
+    pub fn scan(&mut self, scan: &mut Scan) -> Result<Scanned, RowFault>
+        ensures scanned { MatchResult result (λ scanned. IsScanned scanned scan.old scan.new self.old.rows.rows) (λ fault. IsMemory fault × (scan.new ≡ scan.old) × (0 < length (rows_left scan.old self.old.rows.rows))) }
+        ensures same { (self.new.disk ≡ self.old.disk) × (self.new.rows ≡ self.old.rows) × (self.new.halted ≡ self.old.halted) }
+    {
+        self.rows.scan(&mut self.disk, scan)
     }
 
     /// Commits a batch of rows and records. A crash in the call leaves the rows of before or those with the batch, and files

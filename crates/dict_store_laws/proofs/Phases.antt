@@ -9,7 +9,7 @@ use Rattle.disk_trait.proofs.Follows.{apart-sym}
 use Rattle.row_batch.specs.declared.operation.Operation.{Operation}
 use Rattle.row_batch.specs.Rows.{applied}
 use Rattle.row_store.specs.Value.{StoreValue}
-use Rattle.row_store.specs.OnDisk.{HasRows}
+use Rattle.row_store.specs.OnDisk.{HasRows, IsOnDisk}
 use Rattle.ddl_log.specs.declared.records.Kind.{Kind}
 use Rattle.ddl_log.specs.declared.records.Kind.TheVariants.{DeleteSpace, RenameSpace, WriteSdi}
 use Rattle.ddl_log.specs.declared.records.LogRecord.{LogRecord}
@@ -17,6 +17,7 @@ use Rattle.ddl_log.specs.Effect.{Differs, IsBeside, IsOff, IsFree, AreBeside, Is
 use Rattle.ddl_log.proofs.Effects.{free, is_done, is_under, old_beside}
 use Rattle.post_ddl.specs.Replays.{Does}
 use Rattle.log_rows.specs.Logs.{IsLog}
+use Rattle.log_rows.proofs.Logs.{one_log}
 use Rattle.dict_store_laws.specs.System.{system_path, is_system, stripped, IsOrdinary, IsRight}
 use Rattle.dict_store_laws.specs.Recovers.{IsLastAt, AreLast, IsOrderly, Holds}
 use Rattle.dict_store_laws.specs.Kept.{File, Work, AreDone, AreThere, AreOwn, NamesNone, IsNone, IsFit, IsSoFar, IsKept}
@@ -300,3 +301,15 @@ accounted items wanted directory right path own is_free =
 
 pub reads_accounted : (s : Story) (now : ℕ) (store : StoreValue) (work : Work) → IsSoundStory (Some s) now → IsKept (Some s) store work → (path : List ℕ) → is_system path ≡ false → IsFree path work.items → reads s path ≡ work.wanted path
 reads_accounted s now store work sound kept path own is_free = accounted work.items work.wanted (reads s) (kept.so_far (reads s) (reads_now s now sound)).right path own is_free
+
+-- ## A store that was opened
+
+pub opened : (s : Option Story) (store : StoreValue) (items : List LogRecord) (wanted : Directory) → store.journal.path ≡ system_path → IsOnDisk s store → IsLog store.rows items → IsOrderly items
+    → ((image : Directory) → Images s image → Holds store.rows wanted image) → IsKept s store (record { items = items; wanted = wanted; finished = []; made = [] })
+opened s store items wanted path on log orderly each = record {
+  path = path;
+  on = on;
+  log = log;
+  fit = record { orderly = orderly; finished = tt; made = tt };
+  so_far = λ image it. let h = each image it in record { right = as_items h.items items wanted image (one_log store.rows h.items items h.log log) h.right; done = tt; there = tt };
+}

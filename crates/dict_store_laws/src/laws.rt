@@ -1,22 +1,30 @@
 // The laws of the dictionary's steps.
-ghost use Rattle.std.specs.Prelude.{◌≡◌, ◌+◌, ◌≤◌, ℕ, List, Option, Some, false, true};
+ghost use Rattle.std.specs.Prelude.{◌≡◌, ◌+◌, ◌≤◌, ℕ, List, [], Option, Some, false, true};
 ghost use Rattle.disk_trait.specs.Change.{Directory};
 ghost use Rattle.disk_trait.specs.Story.{Images, IsSoundStory, Story, reads};
 ghost use Rattle.disk_trait.specs.Carried.{Leaves};
 ghost use Rattle.row_batch.specs.declared.operation.Operation.{Operation};
 ghost use Rattle.row_batch.specs.Rows.{Rows, applied};
 ghost use Rattle.row_store.specs.Value.{StoreValue};
+ghost use Rattle.row_store.specs.OnDisk.{IsOnDisk};
 ghost use Rattle.ddl_log.specs.declared.records.LogRecord.{LogRecord as Item};
 ghost use Rattle.ddl_log.specs.Effect.{IsFree};
 ghost use Rattle.log_rows.specs.Logs.{IsLog};
-ghost use Rattle.dict_store_laws.specs.System.{is_system};
-ghost use Rattle.dict_store_laws.specs.Recovers.{Holds, HoldsEither, Recovers, RecoversEither};
+ghost use Rattle.dict_store_laws.specs.System.{is_system, system_path};
+ghost use Rattle.dict_store_laws.specs.Recovers.{Holds, HoldsEither, IsOrderly, Recovers, RecoversEither};
 ghost use Rattle.dict_store_laws.specs.Kept.{File, IsKept, Work};
 ghost use Rattle.dict_store_laws.specs.Steps.{MayCommit, MayPrepare, MayRemove, with_records};
 ghost use Rattle.dict_store_laws.specs.Plans.{MayCreate, MayExchange};
 ghost use Rattle.dict_store_laws.specs.Safe.{Grows, IsPrefix, IsStamped, Safe};
 
 use crate::Dictionary;
+
+/// A store on the disk is kept, without work that is under way, where each crash leaves its rows and files that fit: so a
+/// store that was opened begins. It does nothing when it runs.
+pub fn opened_stores_are_kept()
+    ensures { (s : Option Story) (store : StoreValue) (items : List Item) (wanted : Directory) → store.journal.path ≡ system_path → IsOnDisk s store → IsLog store.rows items → IsOrderly items
+        → ((image : Directory) → Images s image → Holds store.rows wanted image) → IsKept s store (record { items = items; wanted = wanted; finished = []; made = [] }) }
+{}
 
 /// The batches that may be committed while a session has a record of its own in the log: `prepare`, which puts it, and
 /// `remove`, which takes it away once it is done. It does nothing when it runs.

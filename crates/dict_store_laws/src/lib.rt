@@ -6,7 +6,7 @@ mod laws;
 mod meaning;
 
 pub use laws::{
-    directories_recover, files_are_accounted, histories_stay_safe, plans_may_be_committed,
-    steps_may_be_committed,
+    directories_recover, files_are_accounted, histories_stay_safe, opened_stores_are_kept,
+    plans_may_be_committed, steps_may_be_committed,
 };
 pub use meaning::Dictionary;
