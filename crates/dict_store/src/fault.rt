@@ -10,3 +10,10 @@ pub enum StoreFault {
     /// There was no memory, and nothing was done.
     Memory,
 }
+
+/// No number was left to draw.
+#[derive(Clone, Copy, Debug, PartialEq, Eq)]
+pub struct NoSpaceId {
+    /// The next number, which can't be drawn.
+    pub next: u32,
+}

@@ -6,5 +6,5 @@ mod fault;
 mod paths;
 mod store;
 
-pub use fault::StoreFault;
+pub use fault::{NoSpaceId, StoreFault};
 pub use store::Store;

@@ -1,4 +1,4 @@
-ghost use Rattle.std.specs.Prelude.{◌≡◌, ◌<◌, ◌≤◌, ◌+◌, true, length, MatchResult, ℕ, List, [], ◌∷◌, Some, None, Option, Err, OnOk, IfErr};
+ghost use Rattle.std.specs.Prelude.{◌≡◌, ◌<◌, ◌≤◌, ◌+◌, ◌-◌, ◌^◌, true, length, MatchResult, OkIff, ℕ, List, [], ◌∷◌, Some, None, Option, Err, OnOk, IfErr};
 ghost use Rattle.disk_trait.specs.Story.{WhereTold, Images};
 ghost use Rattle.disk_trait.specs.Carried.{Leaves};
 ghost use Rattle.row_journal.specs.Append.{HasGate};
@@ -15,9 +15,9 @@ ghost use Rattle.dict_store_laws.specs.Steps.{IsWith, MayCommit, MayMake, MayPre
 ghost use Rattle.dict_store.specs.Answers.{HasCause, IsFault, IsPlain, IsRefused, halted_by, rows_behind};
 ghost use Rattle.dict_store.specs.Ready.{is_ready};
 
-use crate::StoreFault;
 use crate::batches::{batch_with, batch_without};
 use crate::paths::{is_system, names_system};
+use crate::{NoSpaceId, StoreFault};
 use data_dir::{DirFault, make};
 use ddl_log::LogRecord;
 use disk_trait::Disk;
@@ -35,6 +35,8 @@ use std::alloc::Global;
 pub struct Store<D: Disk> {
     disk: D,
     rows: RowStore,
+    // The next number for an id or a tablespace.
+    next: u32,
     // The number of the fault after which nothing more is done.
     halted: Option<u64>,
     ghost ready: { is_ready halted (D.story disk) rows.journal ≡ true },
@@ -42,18 +44,20 @@ pub struct Store<D: Disk> {
 }
 
 impl<D: Disk> Store<D> {
-    /// The store of rows that were opened or made on the disk. It makes no call of it.
-    pub fn of(disk: D, rows: RowStore) -> Store<D>
+    /// The store of rows that were opened or made on the disk, with its next number. It makes no call of the disk.
+    pub fn of(disk: D, rows: RowStore, next: u32) -> Store<D>
         requires place { rows.journal.path ≡ system_path }
         requires fresh { rows.journal.fault ≡ None }
         requires room { WhereTold (D.story disk) (HasGate rows.journal.path rows.journal.end) }
         ensures disk { result.disk ≡ disk }
         ensures rows { result.rows ≡ rows }
+        ensures next { result.next ≡ next }
         ensures halted { result.halted ≡ None }
     {
         Store {
             disk,
             rows,
+            next,
             halted: None,
         }
     }
@@ -79,10 +83,33 @@ impl<D: Disk> Store<D> {
         self.halted
     }
 
+    /// The next number.
+    pub fn next(&self) -> u32
+        ensures { result ≡ self.now.next }
+    {
+        self.next
+    }
+
+    /// Draws the next number, behind which the next one is greater by one. There is none to draw where it is
+    /// 4,294,967,295.
+    pub fn draw(&mut self) -> Result<u32, NoSpaceId>
+        ensures drawn { OkIff result (self.old.next < 2 ^ 32 - 1) self.old.next }
+        ensures goes_on { OnOk result (self.new.next ≡ self.old.next + 1) }
+        ensures stays { IfErr result (λ refused. (refused.next ≡ self.old.next) × (self.new.next ≡ self.old.next)) }
+        ensures same { (self.new.disk ≡ self.old.disk) × (self.new.rows ≡ self.old.rows) × (self.new.halted ≡ self.old.halted) }
+    {
+        if self.next == u32::MAX {
+            return Err(NoSpaceId { next: self.next });
+        }
+        let number = self.next;
+        self.next += 1;
+        Ok(number)
+    }
+
     /// The value under the key of a search, as `RowStore::get` gives it.
     pub fn get(&mut self, search: &mut Search) -> Result<Got, RowFault>
         ensures got { MatchResult result (λ got. IsGot got search.old self.old.rows.rows) (λ fault. IsMemory fault × HasKey search.old self.old.rows.rows) }
-        ensures same { (self.new.disk ≡ self.old.disk) × (self.new.rows ≡ self.old.rows) × (self.new.halted ≡ self.old.halted) × (search.new ≡ search.old) }
+        ensures same { (self.new.disk ≡ self.old.disk) × (self.new.rows ≡ self.old.rows) × (self.new.next ≡ self.old.next) × (self.new.halted ≡ self.old.halted) × (search.new ≡ search.old) }
     {
         self.rows.get(&mut self.disk, search)
     }
@@ -90,7 +117,7 @@ impl<D: Disk> Store<D> {
     /// The next rows of a scan, as `RowStore::scan` gives them.
     pub fn scan(&mut self, scan: &mut Scan) -> Result<Scanned, RowFault>
         ensures scanned { MatchResult result (λ scanned. IsScanned scanned scan.old scan.new self.old.rows.rows) (λ fault. IsMemory fault × (scan.new ≡ scan.old) × (0 < length (rows_left scan.old self.old.rows.rows))) }
-        ensures same { (self.new.disk ≡ self.old.disk) × (self.new.rows ≡ self.old.rows) × (self.new.halted ≡ self.old.halted) }
+        ensures same { (self.new.disk ≡ self.old.disk) × (self.new.rows ≡ self.old.rows) × (self.new.next ≡ self.old.next) × (self.new.halted ≡ self.old.halted) }
     {
         self.rows.scan(&mut self.disk, scan)
     }
@@ -106,6 +133,7 @@ impl<D: Disk> Store<D> {
         ensures fault { IsFault result → (work : Work) → IsKept (D.story self.old.disk) self.old.rows work
             → Leaves (D.moment_of self.old.disk) (D.moment_of self.new.disk) (D.story self.old.disk) (D.story self.new.disk) (Holds self.old.rows.rows work.wanted) }
         ensures rows { self.new.rows.rows ≡ rows_behind result batch.now.operations self.old.rows.rows }
+        ensures next { self.new.next ≡ self.old.next }
         ensures refused { IsRefused result → (self.new.disk ≡ self.old.disk) × (self.new.rows ≡ self.old.rows) }
         ensures first { (count : ℕ) → self.old.halted ≡ Some count → result ≡ Err (StoreFault.Halted count) }
         ensures halted { self.new.halted ≡ halted_by result self.old.halted }
@@ -142,6 +170,7 @@ impl<D: Disk> Store<D> {
         ensures fault { IsFault result → (work : Work) → IsKept (D.story self.old.disk) self.old.rows work
             → Leaves (D.moment_of self.old.disk) (D.moment_of self.new.disk) (D.story self.old.disk) (D.story self.new.disk) (Holds self.old.rows.rows work.wanted) }
         ensures rows { self.new.rows.rows ≡ rows_behind result (put_row item.now ∷ []) self.old.rows.rows }
+        ensures next { self.new.next ≡ self.old.next }
         ensures refused { IsRefused result → (self.new.disk ≡ self.old.disk) × (self.new.rows ≡ self.old.rows) }
         ensures first { (count : ℕ) → self.old.halted ≡ Some count → result ≡ Err (StoreFault.Halted count) }
         ensures halted { self.new.halted ≡ halted_by result self.old.halted }
@@ -168,7 +197,7 @@ impl<D: Disk> Store<D> {
         // Once it is done each crash leaves the file.
         ensures kept { OnOk result ((work : Work) (made : List File) → IsKept (D.story self.old.disk) self.old.rows work → MayMake path.now work → IsWith (path.now, bytes.now) work.made made
             → IsKept (D.story self.new.disk) self.new.rows (with_made work made)) }
-        ensures same { (self.new.rows ≡ self.old.rows) × (self.new.halted ≡ self.old.halted) }
+        ensures same { (self.new.rows ≡ self.old.rows) × (self.new.next ≡ self.old.next) × (self.new.halted ≡ self.old.halted) }
         ensures first { (count : ℕ) → self.old.halted ≡ Some count → result ≡ Err (StoreFault.Halted count) }
         ensures plain { IfErr result IsPlain }
         ensures refused { IsRefused result → self.new.disk ≡ self.old.disk }
@@ -196,7 +225,7 @@ impl<D: Disk> Store<D> {
             → Leaves (D.moment_of self.old.disk) (D.moment_of self.new.disk) (D.story self.old.disk) (D.story self.new.disk) (Holds self.old.rows.rows work.wanted) }
         ensures kept { OnOk result ((work : Work) (finished : List Item) → IsKept (D.story self.old.disk) self.old.rows work → MayReplay item.now bytes.now work → IsWith item.now work.finished finished
             → IsKept (D.story self.new.disk) self.new.rows (with_records work work.items finished)) }
-        ensures same { self.new.rows ≡ self.old.rows }
+        ensures same { (self.new.rows ≡ self.old.rows) × (self.new.next ≡ self.old.next) }
         ensures first { (count : ℕ) → self.old.halted ≡ Some count → result ≡ Err (StoreFault.Halted count) }
         ensures plain { IfErr result IsPlain }
         ensures refused { IsRefused result → self.new.disk ≡ self.old.disk }
@@ -230,6 +259,7 @@ impl<D: Disk> Store<D> {
         ensures fault { IsFault result → (work : Work) → IsKept (D.story self.old.disk) self.old.rows work
             → Leaves (D.moment_of self.old.disk) (D.moment_of self.new.disk) (D.story self.old.disk) (D.story self.new.disk) (Holds self.old.rows.rows work.wanted) }
         ensures rows { self.new.rows.rows ≡ rows_behind result (delete_row item.now ∷ []) self.old.rows.rows }
+        ensures next { self.new.next ≡ self.old.next }
         ensures refused { IsRefused result → (self.new.disk ≡ self.old.disk) × (self.new.rows ≡ self.old.rows) }
         ensures first { (count : ℕ) → self.old.halted ≡ Some count → result ≡ Err (StoreFault.Halted count) }
         ensures halted { self.new.halted ≡ halted_by result self.old.halted }
