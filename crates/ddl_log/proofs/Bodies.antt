@@ -136,7 +136,7 @@ record_takes id bytes item small fits e =
     let is : IsRecord made = record { id = small; thread = eqb-true (id / 2 ^ 32) a.0.0.thread first.1; space = one.space; old_path = two.1; new_path = three.1; by_kind = by_kind a.0.0.kind c.0.0 second.1 } in
     subst (λ (v : LogRecord). IsOf id bytes v) g.1 (record { is_record = is; id_is = refl; bytes_are = same })
 
-record_again : (item : LogRecord) → IsRecord item → record_at item.id (record_bytes item) ≡ Some item
+pub record_again : (item : LogRecord) → IsRecord item → record_at item.id (record_bytes item) ≡ Some item
 unfolding record_at record_bytes
 record_again item is =
     let small : item.thread < 2 ^ 32 = omega (arith, is.thread, is.id) in

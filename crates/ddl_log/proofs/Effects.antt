@@ -109,7 +109,7 @@ module _ (P : List ℕ → Type 0) where
   agree [] wanted d e within same = same
   agree (item ∷ items) wanted d e within same = agree items wanted (effect_of item wanted d) (effect_of item wanted e) within.1 (λ q in_p. local item wanted d e q (same item.old_path within.0) (same q in_p))
 
-old_beside : (kind : Kind) (old new q : List ℕ) → IsBeside kind old new q → Differs old q
+pub old_beside : (kind : Kind) (old new q : List ℕ) → IsBeside kind old new q → Differs old q
 old_beside DeleteSpace old new q off = off
 old_beside RenameSpace old new q off = off.0
 old_beside WriteSdi old new q off = off
@@ -122,13 +122,13 @@ both_in : (P Q R : List ℕ → Type 0) → ((q : List ℕ) → P q → Q q → 
 both_in P Q R join [] one two = tt
 both_in P Q R join (item ∷ items) one two = (join item.old_path one.0 two.0, both_in P Q R join items one.1 two.1)
 
-beside_old : (kind : Kind) (old new : List ℕ) (items : List LogRecord) → AreBeside kind old new items → OldIn (IsBeside kind old new) items
+pub beside_old : (kind : Kind) (old new : List ℕ) (items : List LogRecord) → AreBeside kind old new items → OldIn (IsBeside kind old new) items
 beside_old DeleteSpace old new items it = free_old old items it
 beside_old RenameSpace old new items it = both_in (Differs old) (Differs new) (IsBeside RenameSpace old new) (λ q one two. (one, two)) items (free_old old items it.0) (free_old new items it.1)
 beside_old WriteSdi old new items it = free_old old items it
 
 -- a path is one that the operation doesn't name, or one that no record names
-one_of_two : (kind : Kind) (old new : List ℕ) (items : List LogRecord) → AreBeside kind old new items → (q : List ℕ) → IsBeside kind old new q ⊎ IsFree q items
+pub one_of_two : (kind : Kind) (old new : List ℕ) (items : List LogRecord) → AreBeside kind old new items → (q : List ℕ) → IsBeside kind old new q ⊎ IsFree q items
 one_of_two DeleteSpace old new items it q = elim (paths old q) [ inl is ↦ inr (subst (λ (x : List ℕ). IsFree x items) is it) | inr off ↦ inl off ]
 one_of_two RenameSpace old new items it q = elim (paths old q) [
   | inl is ↦ inr (subst (λ (x : List ℕ). IsFree x items) is it.0)
@@ -136,7 +136,7 @@ one_of_two RenameSpace old new items it q = elim (paths old q) [
 ]
 one_of_two WriteSdi old new items it q = elim (paths old q) [ inl is ↦ inr (subst (λ (x : List ℕ). IsFree x items) is it) | inr off ↦ inl off ]
 
-old_free : (kind : Kind) (old new : List ℕ) (items : List LogRecord) → AreBeside kind old new items → IsFree old items
+pub old_free : (kind : Kind) (old new : List ℕ) (items : List LogRecord) → AreBeside kind old new items → IsFree old items
 old_free DeleteSpace old new items it = it
 old_free RenameSpace old new items it = it.0
 old_free WriteSdi old new items it = it
