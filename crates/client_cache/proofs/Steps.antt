@@ -1,15 +1,14 @@
 -- Uses that end one after another.
-use Rattle.std.proofs.Common.{◌≡◌, ℕ, zero, suc, ◌-◌, ◌+◌, ◌<◌, Bool, true, false, cond, List, [], ◌∷◌, ◌++◌, drop, inl, inr, refl, sym, ◌∙◌, ap, subst, arith}
-use Rattle.std.specs.Prelude.{Option, Some, None, IsSome, is_some, ◌⊎◌, if◌then◌else◌}
+use Rattle.std.proofs.Common.{◌≡◌, ℕ, zero, suc, ◌-◌, ◌<◌, Bool, true, false, cond, List, [], ◌∷◌, ◌++◌, drop, inl, inr, refl, sym, ◌∙◌, ap, subst, arith}
+use Rattle.std.specs.Prelude.{Option, Some, None, IsSome, is_some, if◌then◌else◌}
 use Rattle.std.specs.Option.{option_map}
 use Rattle.std.specs.Map.{lookup}
 use Rattle.std.proofs.lemmas.Bool.{true≢false}
 use Rattle.dd_names.specs.declared.object_name.ObjectKey.{ObjectKey}
-use Rattle.dd_catalog.specs.declared.object.Object.{Object}
 use Rattle.shared_cache.specs.declared.slots.Slot.{Slot}
 use Rattle.shared_cache.specs.declared.slots.Slot.TheVariants.{Room, Listed}
 use Rattle.shared_cache.specs.State.{Cache, same_key, slot_at, object_in, uses_in, loader_in, listed, uses, loader, among}
-use Rattle.shared_cache.specs.Calls.{IsSame, IsAt, Rests, use_ended}
+use Rattle.shared_cache.specs.Calls.{use_ended}
 use Rattle.shared_cache.proofs.Keys.{one, itself, tied}
 use Rattle.client_cache.specs.Registries.{is_key}
 use Rattle.client_cache.specs.Cleared.{AreUsed, StaysOrLeft, ended, Released, AllReleased}
@@ -200,10 +199,3 @@ all_ended old new before after none released = record {
   loaders = released.loaders;
   capacity = released.capacity;
 }
-
--- ## What is held
-
--- an object that is put under a key
-pub put_one : {X Y : Type 0} (f : X → Y) (o : Option X) (b : Bool) (x : X) (rest : Option X) → o ≡ cond b (Some x) rest → option_map f o ≡ cond b (Some (f x)) (option_map f rest)
-put_one f o true x rest is = ap (option_map f) is
-put_one f o false x rest is = ap (option_map f) is

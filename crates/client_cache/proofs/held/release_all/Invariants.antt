@@ -1,4 +1,3 @@
-use Rattle.std.proofs.Common.{◌≡◌, ℕ}
 use Rattle.indexmap.specs.IndexMap.{index_map_len}
 use Rattle.client_cache.specs.Registries.{holds_in}
 use Rattle.client_cache.specs.Cleared.{Released}
