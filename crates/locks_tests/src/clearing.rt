@@ -2,14 +2,13 @@ ghost use Rattle.locks_tests.specs.Idle.{IsFit};
 
 use crate::reads::{Step, follow};
 use crate::uses::{Told, begin, key_of};
+use Step::{Keep, Visit};
+use Told::{Hit, Loaded};
 use client_cache::Client;
 use dd_names::{ObjectKey, TryCopy};
 use shared_cache::Shared;
 use std::alloc::{AllocError, Global};
 use std::test::Fail;
-
-use Step::{Keep, Visit};
-use Told::{Hit, Loaded};
 
 /// Has the client hold what stands at the key.
 fn obtain(
@@ -42,6 +41,7 @@ fn obtain_all(
     Ok(())
 }
 
+#[tactic(auto, using(crate::proofs::Idle::at_idle, crate::proofs::Idle::at_used))]
 fn evict(client: &Client, shared: &mut Shared, key: &ObjectKey)
     requires fit { IsFit client.now shared.old }
     ensures fit { IsFit client.now shared.new }
@@ -144,6 +144,7 @@ const CASES: [Case; 6] = [
 ];
 
 /// How many objects are without use where the client was cleared, and what others are told then.
+#[tactic(auto, using(crate::proofs::Idle::empty_idle, crate::proofs::Idle::cleared_idle))]
 fn cleared(alloc: Global, case: Case) -> Result<(usize, Vec<Told>), Fail> {
     let mut shared = Shared::new(alloc, case.capacity)?;
     follow(alloc, &mut shared, case.before)?;

@@ -1,12 +1,11 @@
 use crate::uses::key_of;
+use Act::{Hold, Remove, Store};
 use client_cache::Client;
 use dd_catalog::{Known, Lookup, Object};
 use dd_names::{ObjectKey, TryCopy};
 use std::alloc::{AllocError, Global};
 use std::sync::Arc;
 use std::test::Fail;
-
-use Act::{Hold, Remove, Store};
 
 /// What a session does with one key. Objects are told apart by their ids.
 #[derive(Clone, Copy, Drop)]
@@ -25,7 +24,12 @@ enum Seen {
     Other,
 }
 
-fn act_once(alloc: Global, client: &mut Client, key: &ObjectKey, act: Act) -> Result<(), AllocError> {
+fn act_once(
+    alloc: Global,
+    client: &mut Client,
+    key: &ObjectKey,
+    act: Act,
+) -> Result<(), AllocError> {
     let key = key.copy()?;
     match act {
         Hold(id) => {

@@ -2,9 +2,9 @@
 #![tactic(auto)]
 
 #[cfg(test)]
-mod clients;
-#[cfg(test)]
 mod clearing;
+#[cfg(test)]
+mod clients;
 #[cfg(test)]
 mod loads;
 #[cfg(test)]

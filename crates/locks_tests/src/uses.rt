@@ -85,11 +85,8 @@ pub(crate) fn begin(
 }
 
 /// Begins a use and ends it.
-pub(crate) fn read(
-    alloc: Global,
-    shared: &mut Shared,
-    key: &ObjectKey,
-) -> Result<Told, AllocError>
+#[tactic(auto, using(crate::proofs::Idle::ended_idle))]
+pub(crate) fn read(alloc: Global, shared: &mut Shared, key: &ObjectKey) -> Result<Told, AllocError>
     requires idle { IsIdle shared.old }
     ensures idle { IsIdle shared.new }
 {
@@ -99,6 +96,7 @@ pub(crate) fn read(
 }
 
 /// Takes the object away that stands at the key, and ends a use where none is listed any more.
+#[tactic(auto, using(crate::proofs::Idle::at_idle, crate::proofs::Idle::ended_idle))]
 pub(crate) fn evict_in_use(shared: &mut Shared, key: &ObjectKey)
     requires idle { IsIdle shared.old }
     ensures idle { IsIdle shared.new }
