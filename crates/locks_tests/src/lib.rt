@@ -1,15 +1,5 @@
-//! Tests of metadata locks, of the shared cache, and of the caches of clients.
+//! Tests of metadata locks.
 #![tactic(auto)]
 
 #[cfg(test)]
-mod clearing;
-#[cfg(test)]
-mod clients;
-#[cfg(test)]
-mod loads;
-#[cfg(test)]
 mod locks;
-#[cfg(test)]
-mod reads;
-#[cfg(test)]
-mod uses;
