@@ -48,6 +48,9 @@ d name = on.Object (record { schema = codes "d"; name = codes name })
 abbrev pub e : String → LockKey
 e name = on.Object (record { schema = codes "e"; name = codes name })
 
+abbrev pub n : String → LockKey
+n name = on.Object (record { schema = codes "n"; name = codes name })
+
 -- a constraint's name in a schema
 abbrev pub constraint : String → String → LockKey
 constraint in_schema name = on.Constraint (codes in_schema) (codes name)

@@ -93,6 +93,7 @@ family =
     ∷ step (keys.Children (in_d "o")) (ChildrenThere [])
     ∷ step (keys.Children (in_e "q")) (ChildrenThere [])
     ∷ step (keys.Constraint (codes "d") (codes "c_ibfk_1")) (OwnerThere (in_d "c"))
+    ∷ step (keys.Constraint (codes "d") (codes "c_ibfk_2")) Nothing
     ∷ step (keys.Constraint (codes "d") (codes "f")) Nothing
     ∷ step (keys.Constraint (codes "d") (codes "k")) Nothing
     ∷ step (keys.Constraint (codes "d") (codes "t_ibfk_1")) Nothing
@@ -111,8 +112,8 @@ abbrev pub a_key_column : Element
 a_key_column = Column (record { name = codes "a"; kind = words.Int Normal false; nullable = None; default = None; auto = false; unique = false; primary = true })
 
 -- a foreign key on the column
-abbrev pub refers_to : ObjRef → Option (List ℕ) → Element
-refers_to parent constraint = ForeignKey (record {
+abbrev pub words_on : ObjRef → Option (List ℕ) → FkWords
+words_on parent constraint = record {
   constraint = constraint;
   name = None;
   columns = codes "a" ∷ [];
@@ -120,4 +121,7 @@ refers_to parent constraint = ForeignKey (record {
   parent_columns = codes "a" ∷ [];
   on_delete = NoAction;
   on_update = NoAction;
-})
+}
+
+abbrev pub refers_to : ObjRef → Option (List ℕ) → Element
+refers_to parent constraint = ForeignKey (words_on parent constraint)
