@@ -332,7 +332,7 @@ def make(top):
 
 def main():
     with tempfile.TemporaryDirectory() as folder:
-        done = subprocess.run(["rt", "try"], cwd=make(pathlib.Path(folder)), stdout=subprocess.PIPE, text=True, check=True)
+        done = subprocess.run(["rt", "try", "--seconds", "600", "--steps", "1000"], cwd=make(pathlib.Path(folder)), stdout=subprocess.PIPE, text=True, check=True)
     taken = {}
     for line in done.stdout.splitlines():
         words = line.split()

@@ -1,7 +1,7 @@
 -- What the text of each statement claims, before anything is looked at: what it changes, what it reads that it names, and the
 -- names of constraints that it gives. Locks suffice whatever stands here; but what two statements mean to change is locked in X
 -- from the start, or both could read it first and wait for each other.
-use Rattle.std.specs.Prelude.{ℕ, List, [], ◌∷◌, ◌++◌, map, Option, Some, None}
+use Rattle.std.specs.Prelude.{ℕ, List, [], ◌∷◌, ◌++◌, Option, Some, None}
 use Rattle.std.specs.List.{flat_map}
 use Rattle.dd_names.specs.Names.{fold}
 use Rattle.dd_names.specs.declared.object_name.ObjName.{ObjName}

@@ -1,5 +1,5 @@
 -- ALTER TABLE, CREATE INDEX and DROP INDEX.
-use Rattle.std.specs.Prelude.{ℕ, Bool, true, false, List, [], ◌∷◌, Option, Some, None, codes}
+use Rattle.std.specs.Prelude.{ℕ, false, List, [], ◌∷◌, Option, Some, None, codes}
 use Prim.Native.String.{String}
 use Rattle.sql_types.specs.declared.choices.IndexClass.TheVariants.{Plain}
 use Rattle.sql_types.specs.declared.choices.IntSize.TheVariants.{Normal}

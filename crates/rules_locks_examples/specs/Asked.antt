@@ -1,8 +1,7 @@
 -- What a statement asks for over the small catalog, beside what it is to ask for.
-use Rattle.std.specs.Prelude.{◌≡◌, List, [], ◌∷◌, map, Option, Some, None, codes}
+use Rattle.std.specs.Prelude.{◌≡◌, List, [], map, codes}
 use Prim.Native.String.{String}
 use Rattle.dd_errors.specs.Errors.{ErrorValue}
-use Rattle.sql_ast.specs.declared.session.SessionState.{SessionState}
 use Rattle.sql_ast.specs.declared.statement.Statement.{Statement}
 use Rattle.dd_catalog.specs.Walks.{Walk}
 use Rattle.metadata_locks.specs.declared.request.LockKey.{LockKey}

@@ -8,7 +8,6 @@ use Rattle.sql_types.specs.declared.choices.IntSize.TheVariants.{Normal}
 use Rattle.sql_types.specs.declared.choices.ColumnType.TheVariants as types
 use Rattle.sql_types.specs.declared.choices.IndexClass.TheVariants as classes
 use Rattle.sql_types.specs.declared.choices.FkRule.TheVariants.{NoAction}
-use Rattle.sql_types.specs.declared.words.ColumnWords.{ColumnWords}
 use Rattle.sql_types.specs.declared.words.FkWords.{FkWords}
 use Rattle.sql_types.specs.declared.words.ObjRef.{ObjRef}
 use Rattle.sql_types.specs.declared.words.TypeWords.TheVariants as words

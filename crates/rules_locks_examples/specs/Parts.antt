@@ -1,5 +1,5 @@
 -- Locks as far as they are known, those of the texts of views, and lists of locks that aren't enough.
-use Rattle.std.specs.Prelude.{◌≡◌, Bool, true, false, List, [], ◌∷◌, map, Option, Some, None, codes, if◌then◌else◌}
+use Rattle.std.specs.Prelude.{◌≡◌, Bool, true, false, List, [], ◌∷◌, map, Some, None, codes, if◌then◌else◌}
 use Rattle.std.specs.List.{list_all, list_any}
 use Rattle.dd_names.specs.declared.object_name.ObjectKey.{ObjectKey}
 use Rattle.dd_names.specs.declared.object_name.ObjectKey.TheVariants as keys
