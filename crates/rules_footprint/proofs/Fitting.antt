@@ -1,5 +1,5 @@
 -- What was told of a key is what its step saw.
-use Rattle.std.specs.Prelude.{◌≡◌, Bool, true, false, List, [], ◌∷◌, map, Option, Some, None, Result, Ok, Err, if◌then◌else◌, refl}
+use Rattle.std.specs.Prelude.{◌≡◌, Bool, true, false, List, [], ◌∷◌, map, Option, Some, Result, Ok, Err, if◌then◌else◌, refl}
 use Rattle.std.specs.List.{AllByRecursion}
 use Rattle.std.proofs.Common.{ap, append_assoc, sym, ◌∙◌, ◌++◌}
 use Rattle.dd_names.specs.declared.object_name.ObjName.{ObjName}

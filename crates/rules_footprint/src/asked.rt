@@ -7,7 +7,7 @@ ghost use Rattle.rules_locks.specs.Holdings.{holding, request, with_request, wit
 ghost use Rattle.rules_footprint.specs.Coded.{claim_of, claims_of, requests_of};
 
 use crate::claims::Claim;
-use dd_names::{Name, ObjName, TryCopy, both};
+use dd_names::{List, Name, ObjName, TryCopy, both};
 use metadata_locks::{LockKey, Mode, Request};
 use std::alloc::{AllocError, Global};
 use std::collections::BTreeSet;
@@ -25,6 +25,17 @@ impl Requests {
         Requests {
             all: BTreeSet::new(alloc),
         }
+    }
+
+    /// The requests, in the order of their keys and modes.
+    pub fn into_list(self, alloc: Global) -> Result<List<Request>, AllocError>
+        ensures { IfOk result (λ list. list ≡ requests_of self) }
+    {
+        let mut list = List::new(alloc);
+        'all: for request in self.all {
+            list.push(request)?;
+        }
+        Ok(list)
     }
 
     /// Asks for what the claims want beyond what is asked for, one after another.

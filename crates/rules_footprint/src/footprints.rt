@@ -22,6 +22,7 @@ use sql_ast::{SessionState, Statement};
 use std::alloc::{AllocError, Global};
 
 /// What a client was told of a key that its statement needed.
+#[derive(Drop)]
 pub struct Told<'a> {
     pub key: &'a ObjectKey,
     /// What stands there; `Object::Absent` where nothing does.

@@ -11,3 +11,4 @@ mod texts;
 pub use asked::Requests;
 pub use claims::Claim;
 pub use footprints::{Told, footprint};
+pub use plans::claims_of_changes;

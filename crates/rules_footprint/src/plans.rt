@@ -16,7 +16,16 @@ use dd_definitions::ForeignKeyDef;
 use dd_names::{List, Name, ObjName, ObjectKey, TryCopy, both};
 use rules_elements::is_same_object;
 use rules_outcome::{After, Decided, Edit};
-use std::alloc::AllocError;
+use std::alloc::{AllocError, Global};
+
+/// What the changes of what is decided claim.
+pub fn claims_of_changes(alloc: Global, decided: &Decided) -> Result<List<Claim>, AllocError>
+    ensures { (steps : Listed Step) → AllFit steps decided.now → IfOk result (λ claims. claims_of claims ≡ choice_claims steps (chosen decided.now)) }
+{
+    let mut claims = List::new(alloc);
+    add_choice(&mut claims, decided)?;
+    Ok(claims)
+}
 
 /// What is changed of the catalog.
 pub(crate) fn add_choice(claims: &mut List<Claim>, decided: &Decided) -> Result<(), AllocError>

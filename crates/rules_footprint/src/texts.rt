@@ -5,7 +5,7 @@ ghost use Rattle.std.specs.Option.{option_map};
 ghost use Rattle.rules_elements.specs.Keys.{first_given};
 ghost use Rattle.rules_named.specs.Named.{object_in};
 ghost use Rattle.rules_footprint.specs.Coded.{claims_of};
-ghost use Rattle.rules_intents.specs.Intents.{action_claims, alter_claims, at_named, body_claims, changes, creation_claims, element_claims, foreign_key_claims, index_claims, joins, listed_claims, name_given, pair_claims, reads, schema_claims, session_claims, show_claims, table_claims, text_claims};
+ghost use Rattle.rules_intents.specs.Intents.{action_claims, alter_claims, at_named, body_claims, changes, creation_claims, element_claims, foreign_key_claims, index_claims, joins, listed_claims, name_given, pair_claims, reads, schema_claims, session_claims, show_claims, source_claims, table_claims, text_claims, view_claims};
 
 use crate::claims::Claim;
 use crate::looks::add;
@@ -13,8 +13,9 @@ use crate::plans::{add_schema, taken_name};
 use dd_names::{List, Name, ObjName, TryCopy, both};
 use rules_named::first_given;
 use sql_ast::{
-    AlterAction, CreateTable, Element, IndexStatement, RenamePair, SchemaStatement,
-    SessionStatement, ShowStatement, ShownCreation, Statement, TableBody, TableStatement,
+    AlterAction, CreateTable, Element, IndexStatement, RenamePair, SchemaStatement, Select,
+    SelectSource, SessionStatement, ShowStatement, ShownCreation, Statement, TableBody,
+    TableStatement, ViewStatement,
 };
 use sql_types::{FkWords, ObjRef};
 use std::alloc::AllocError;
@@ -30,8 +31,9 @@ pub(crate) fn add_text(
         Statement::Schema(statement) => add_schemas(claims, statement),
         Statement::Table(statement) => add_tables(claims, current, statement),
         Statement::Show(statement) => add_shown(claims, current, statement),
+        Statement::View(statement) => add_views(claims, current, statement),
         Statement::Session(statement) => add_session(claims, statement),
-        Statement::View(_) | Statement::Bad(_) => Ok(()),
+        Statement::Bad(_) => Ok(()),
     }
 }
 
@@ -62,10 +64,12 @@ fn add_shown(
     ensures { OnOk result (claims_of claims.new ≡ claims_of claims.old ++ show_claims current.now statement.now) }
 {
     match statement {
-        ShowStatement::Databases => add(claims, Claim::KeepSchemas),
+        ShowStatement::Databases | ShowStatement::Information { .. } => {
+            add(claims, Claim::KeepSchemas)
+        }
         ShowStatement::Tables { schema } => add_listed(claims, current, schema),
         ShowStatement::Creation(shown) => add_creation(claims, current, shown),
-        ShowStatement::Columns { .. } | ShowStatement::Information { .. } => Ok(()),
+        ShowStatement::Columns { object } => add_read(claims, current, object),
     }
 }
 
@@ -350,4 +354,54 @@ fn add_index(
             add_changed(claims, current, table)
         }
     }
+}
+
+fn add_views(
+    claims: &mut List<Claim>,
+    current: &Option<Name>,
+    statement: &ViewStatement,
+) -> Result<(), AllocError>
+    ensures { OnOk result (claims_of claims.new ≡ claims_of claims.old ++ view_claims current.now statement.now) }
+{
+    add(claims, Claim::ChangeCatalog)?;
+    match statement {
+        ViewStatement::Create { view, query, .. } => add_view(claims, current, view, query),
+        ViewStatement::Drop { views, .. } => add_dropped(claims, current, views.as_slice()),
+    }
+}
+
+/// The view, and the sources that it names.
+fn add_view(
+    claims: &mut List<Claim>,
+    current: &Option<Name>,
+    view: &ObjRef,
+    query: &Select,
+) -> Result<(), AllocError>
+    ensures { OnOk result (claims_of claims.new ≡ claims_of claims.old ++ (at_named changes current.now view.now ++ flat_map (source_claims current.now) query.now.sources)) }
+{
+    add_changed(claims, current, view)?;
+    add_sources(claims, current, query.sources.as_slice())
+}
+
+fn add_sources(
+    claims: &mut List<Claim>,
+    current: &Option<Name>,
+    sources: &[SelectSource],
+) -> Result<(), AllocError>
+    ensures { OnOk result (claims_of claims.new ≡ claims_of claims.old ++ flat_map (source_claims current.now) sources.now) }
+{
+    'sources: for source in sources {
+        add_source(claims, current, source)?;
+    }
+    Ok(())
+}
+
+fn add_source(
+    claims: &mut List<Claim>,
+    current: &Option<Name>,
+    source: &SelectSource,
+) -> Result<(), AllocError>
+    ensures { OnOk result (claims_of claims.new ≡ claims_of claims.old ++ source_claims current.now source.now) }
+{
+    add_read(claims, current, &source.object)
 }

@@ -1,7 +1,7 @@
 -- What the text of each statement claims, before anything is looked at: what it changes, what it reads that it names, and the
 -- names of constraints that it gives. Locks suffice whatever stands here; but what two statements mean to change is locked in X
 -- from the start, or both could read it first and wait for each other.
-use Rattle.std.specs.Prelude.{ℕ, List, [], ◌∷◌, ◌++◌, map, Option, Some, None}
+use Rattle.std.specs.Prelude.{ℕ, List, [], ◌∷◌, ◌++◌, Option, Some, None}
 use Rattle.std.specs.List.{flat_map}
 use Rattle.dd_names.specs.Names.{fold}
 use Rattle.dd_names.specs.declared.object_name.ObjName.{ObjName}
@@ -29,6 +29,9 @@ use Rattle.sql_ast.specs.declared.table.TableBody.{TableBody}
 use Rattle.sql_ast.specs.declared.table.TableBody.TheVariants as bodies
 use Rattle.sql_ast.specs.declared.table.TableStatement.{TableStatement}
 use Rattle.sql_ast.specs.declared.table.TableStatement.TheVariants as tables
+use Rattle.sql_ast.specs.declared.view.SelectSource.{SelectSource}
+use Rattle.sql_ast.specs.declared.view.ViewStatement.{ViewStatement}
+use Rattle.sql_ast.specs.declared.view.ViewStatement.TheVariants as views
 use Rattle.rules_elements.specs.Keys.{first_given}
 use Rattle.rules_named.specs.Named.{object_in}
 use Rattle.rules_locks.specs.Claims.{Claim, KeepSchemas, KeepSchema, KeepObjects, KeepObject, ChangeCatalog, ChangeSchema, ChangeObject, JoinParent, TakeName}
@@ -88,6 +91,11 @@ abbrev pub index_claims : Option (List ℕ) → IndexStatement → List Claim
 index_claims current (indexes.Create unique name table columns) = at_named changes current table
 index_claims current (indexes.Drop name table) = at_named changes current table
 
+-- ## CREATE VIEW
+
+abbrev pub source_claims : Option (List ℕ) → SelectSource → List Claim
+source_claims current source = at_named reads current source.object
+
 -- ## All statements
 
 abbrev pub pair_claims : Option (List ℕ) → RenamePair → List Claim
@@ -105,6 +113,10 @@ table_claims current (tables.Truncate table) = ChangeCatalog ∷ at_named change
 table_claims current (tables.Alter table acts) = ChangeCatalog ∷ at_named (alter_claims current acts) current table
 table_claims current (tables.Index statement) = ChangeCatalog ∷ index_claims current statement
 
+abbrev pub view_claims : Option (List ℕ) → ViewStatement → List Claim
+view_claims current (views.Create view columns query) = ChangeCatalog ∷ (at_named changes current view ++ flat_map (source_claims current) query.sources)
+view_claims current (views.Drop if_exists dropped) = ChangeCatalog ∷ flat_map (at_named changes current) dropped
+
 abbrev pub creation_claims : Option (List ℕ) → ShownCreation → List Claim
 creation_claims current (creations.Database name) = KeepSchema name ∷ []
 creation_claims current (creations.Table object) = at_named reads current object
@@ -117,8 +129,9 @@ listed_claims (Some schema) = KeepObjects schema ∷ []
 abbrev pub show_claims : Option (List ℕ) → ShowStatement → List Claim
 show_claims current shows.Databases = KeepSchemas ∷ []
 show_claims current (shows.Tables schema) = listed_claims (first_given schema current)
+show_claims current (shows.Columns object) = at_named reads current object
 show_claims current (shows.Creation shown) = creation_claims current shown
-show_claims current statement = []
+show_claims current (shows.Information table) = KeepSchemas ∷ []
 
 abbrev pub session_claims : SessionStatement → List Claim
 session_claims (sessions.Use name) = KeepSchema name ∷ []
@@ -127,9 +140,10 @@ session_claims (sessions.SetTries value) = []
 abbrev pub text_claims : Option (List ℕ) → Statement → List Claim
 text_claims current (is.Schema statement) = schema_claims statement
 text_claims current (is.Table statement) = table_claims current statement
+text_claims current (is.View statement) = view_claims current statement
 text_claims current (is.Show statement) = show_claims current statement
 text_claims current (is.Session statement) = session_claims statement
-text_claims current statement = []
+text_claims current (is.Bad error) = []
 
 -- RENAME TABLE, ALTER TABLE and the statements of indexes write the children of their tables
 abbrev pub table_grip : TableStatement → Grip

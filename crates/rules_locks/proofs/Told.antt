@@ -12,16 +12,19 @@ use Rattle.rules_locks.proofs.Places.{place_itself, same_place}
 
 -- ## One more step
 
-seen_more : (before : List Step) (s : Step) (key : ObjectKey) → seen_at before key ≡ None → seen_at (before ++ s ∷ []) key ≡ (if is_same_place s.key key then Some s.seen else None)
-seen_more [] s key none = refl
-seen_more (b ∷ before) s key none = on (is_same_place b.key key) none (seen_more before s key)
+pub seen_behind : (before more : List Step) (key : ObjectKey) → seen_at before key ≡ None → seen_at (before ++ more) key ≡ seen_at more key
+seen_behind [] more key none = refl
+seen_behind (b ∷ before) more key none = on (is_same_place b.key key) none (seen_behind before more key)
   where
-    on : (same : Bool) → ◌≡◌ {A = Option Sight} (if same then Some b.seen else seen_at before key) None → (seen_at before key ≡ None → seen_at (before ++ s ∷ []) key ≡ (if is_same_place s.key key then Some s.seen else None))
-        → (if same then Some b.seen else seen_at (before ++ s ∷ []) key) ≡ (if is_same_place s.key key then Some s.seen else None)
+    on : (same : Bool) → ◌≡◌ {A = Option Sight} (if same then Some b.seen else seen_at before key) None → (seen_at before key ≡ None → seen_at (before ++ more) key ≡ seen_at more key)
+        → (if same then Some b.seen else seen_at (before ++ more) key) ≡ seen_at more key
     on true is later = cc
     on false is later = later is
 
-seen_still : (before more : List Step) (key : ObjectKey) (seen : Sight) → seen_at before key ≡ Some seen → seen_at (before ++ more) key ≡ Some seen
+seen_more : (before : List Step) (s : Step) (key : ObjectKey) → seen_at before key ≡ None → seen_at (before ++ s ∷ []) key ≡ (if is_same_place s.key key then Some s.seen else None)
+seen_more before s key none = seen_behind before (s ∷ []) key none
+
+pub seen_still : (before more : List Step) (key : ObjectKey) (seen : Sight) → seen_at before key ≡ Some seen → seen_at (before ++ more) key ≡ Some seen
 seen_still [] more key seen is = cc
 seen_still (b ∷ before) more key seen is = on (is_same_place b.key key) is (seen_still before more key seen)
   where
@@ -35,7 +38,7 @@ seen_still (b ∷ before) more key seen is = on (is_same_place b.key key) is (se
 pub record Knows (look : Look) (known : List Step) : Type 0 where
   pub at : (key : ObjectKey) (seen : Sight) → seen_at known key ≡ Some seen → look key ≡ Some seen
 
-knows_more : (look : Look) (before : List Step) (key : ObjectKey) (seen : Sight) → Knows look before → look key ≡ Some seen → Knows look (before ++ step key seen ∷ [])
+pub knows_more : (look : Look) (before : List Step) (key : ObjectKey) (seen : Sight) → Knows look before → look key ≡ Some seen → Knows look (before ++ step key seen ∷ [])
 knows_more look before key seen knows here = record { at = λ other there is. on other there (seen_at before other) refl is }
   where
     new : (other : ObjectKey) (there : Sight) (same : Bool) → is_same_place key other ≡ same → ◌≡◌ {A = Option Sight} (if same then Some seen else None) (Some there) → look other ≡ Some there
@@ -70,7 +73,7 @@ knows_nothing look = record { at = λ key seen is. cc }
 -- ## One more key that is told
 
 -- where no more is known than was seen before, no step is taken
-no_step : {E A : Type 0} (look : Look) (known : List Step) (check : Walk E A) → ((key : ObjectKey) → look key ≡ seen_at known key) → steps look (once known check) ≡ []
+pub no_step : {E A : Type 0} (look : Look) (known : List Step) (check : Walk E A) → ((key : ObjectKey) → look key ≡ seen_at known key) → steps look (once known check) ≡ []
 no_step look known (done x) same = refl
 no_step look known (refuse e) same = refl
 no_step {E = E} {A = A} look known (ask key go) same = on (seen_at known key) (same key) (λ seen. no_step look known (go seen) same)

@@ -1,8 +1,7 @@
 -- What a statement asks for over the small catalog, beside what it is to ask for.
-use Rattle.std.specs.Prelude.{◌≡◌, List, [], ◌∷◌, map, Option, Some, None, codes}
+use Rattle.std.specs.Prelude.{◌≡◌, List, [], map, codes}
 use Prim.Native.String.{String}
 use Rattle.dd_errors.specs.Errors.{ErrorValue}
-use Rattle.sql_ast.specs.declared.session.SessionState.{SessionState}
 use Rattle.sql_ast.specs.declared.statement.Statement.{Statement}
 use Rattle.dd_catalog.specs.Walks.{Walk}
 use Rattle.metadata_locks.specs.declared.request.LockKey.{LockKey}
@@ -47,6 +46,9 @@ d name = on.Object (record { schema = codes "d"; name = codes name })
 
 abbrev pub e : String → LockKey
 e name = on.Object (record { schema = codes "e"; name = codes name })
+
+abbrev pub n : String → LockKey
+n name = on.Object (record { schema = codes "n"; name = codes name })
 
 -- a constraint's name in a schema
 abbrev pub constraint : String → String → LockKey

@@ -8,7 +8,6 @@ use Rattle.sql_types.specs.declared.choices.IntSize.TheVariants.{Normal}
 use Rattle.sql_types.specs.declared.choices.ColumnType.TheVariants as types
 use Rattle.sql_types.specs.declared.choices.IndexClass.TheVariants as classes
 use Rattle.sql_types.specs.declared.choices.FkRule.TheVariants.{NoAction}
-use Rattle.sql_types.specs.declared.words.ColumnWords.{ColumnWords}
 use Rattle.sql_types.specs.declared.words.FkWords.{FkWords}
 use Rattle.sql_types.specs.declared.words.ObjRef.{ObjRef}
 use Rattle.sql_types.specs.declared.words.TypeWords.TheVariants as words
@@ -93,6 +92,7 @@ family =
     ∷ step (keys.Children (in_d "o")) (ChildrenThere [])
     ∷ step (keys.Children (in_e "q")) (ChildrenThere [])
     ∷ step (keys.Constraint (codes "d") (codes "c_ibfk_1")) (OwnerThere (in_d "c"))
+    ∷ step (keys.Constraint (codes "d") (codes "c_ibfk_2")) Nothing
     ∷ step (keys.Constraint (codes "d") (codes "f")) Nothing
     ∷ step (keys.Constraint (codes "d") (codes "k")) Nothing
     ∷ step (keys.Constraint (codes "d") (codes "t_ibfk_1")) Nothing
@@ -111,8 +111,8 @@ abbrev pub a_key_column : Element
 a_key_column = Column (record { name = codes "a"; kind = words.Int Normal false; nullable = None; default = None; auto = false; unique = false; primary = true })
 
 -- a foreign key on the column
-abbrev pub refers_to : ObjRef → Option (List ℕ) → Element
-refers_to parent constraint = ForeignKey (record {
+abbrev pub words_on : ObjRef → Option (List ℕ) → FkWords
+words_on parent constraint = record {
   constraint = constraint;
   name = None;
   columns = codes "a" ∷ [];
@@ -120,4 +120,7 @@ refers_to parent constraint = ForeignKey (record {
   parent_columns = codes "a" ∷ [];
   on_delete = NoAction;
   on_update = NoAction;
-})
+}
+
+abbrev pub refers_to : ObjRef → Option (List ℕ) → Element
+refers_to parent constraint = ForeignKey (words_on parent constraint)

@@ -1,5 +1,5 @@
 -- Statements on schemas, and those that list.
-use Rattle.std.specs.Prelude.{true, false, List, [], ◌∷◌, Some, None, codes}
+use Rattle.std.specs.Prelude.{true, false, List, [], ◌∷◌, None, codes}
 use Rattle.sql_ast.specs.declared.schema.SchemaStatement.TheVariants as schemas
 use Rattle.sql_ast.specs.declared.session.SessionStatement.TheVariants as sessions
 use Rattle.sql_ast.specs.declared.show.ShowStatement.TheVariants as shows
@@ -11,7 +11,7 @@ use Rattle.rules_schema.specs.Sessions.{use_schema, set_tries}
 use Rattle.rules_schema.specs.Listings.{show_databases, show_tables}
 use Rattle.rules_show.specs.Shows.{show_create_database, show_create_table, show_create_view}
 use Rattle.rules_locks_examples.specs.Family.{session, named, of_e}
-use Rattle.rules_locks_examples.specs.Asked.{asked, ix, s, x, all, schema, d, e, Case, AllAre}
+use Rattle.rules_locks_examples.specs.Asked.{asked, ix, s, x, all, schema, d, e, Case}
 
 abbrev pub made : List Case
 made =

@@ -4,9 +4,7 @@ use Rattle.dd_names.specs.declared.object_name.ObjName.{ObjName}
 use Rattle.dd_errors.specs.Errors.{ErrorValue}
 use Rattle.sql_types.specs.declared.words.ObjRef.{ObjRef}
 use Rattle.sql_ast.specs.declared.element.Element.{Element}
-use Rattle.sql_ast.specs.declared.statement.Statement.{Statement}
 use Rattle.sql_ast.specs.declared.statement.Statement.TheVariants.{Table}
-use Rattle.sql_ast.specs.declared.table.CreateTable.{CreateTable}
 use Rattle.sql_ast.specs.declared.table.TableBody.TheVariants.{Like, Elements}
 use Rattle.sql_ast.specs.declared.table.TableStatement.TheVariants as tables
 use Rattle.dd_catalog.specs.Walks.{Walk, done, ◌>>=◌}
@@ -19,7 +17,7 @@ use Rattle.rules_tables.specs.Truncates.{truncate}
 use Rattle.rules_rename.specs.Overlays.{changes_in}
 use Rattle.rules_rename.specs.Renames.{Renamed, renamed_object, schemas_there}
 use Rattle.rules_locks_examples.specs.Family.{session, named, of_e, in_d, in_e, a_column, a_key_column, refers_to}
-use Rattle.rules_locks_examples.specs.Asked.{asked, ix, s, x, all, schema, d, e, constraint, Case, AllAre}
+use Rattle.rules_locks_examples.specs.Asked.{asked, ix, s, x, all, schema, d, e, constraint, Case}
 
 -- ## CREATE TABLE
 

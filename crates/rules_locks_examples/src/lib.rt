@@ -3,4 +3,4 @@
 
 mod cases;
 
-pub use cases::statements_are_locked;
+pub use cases::{alterations_are_locked, locks_are_judged, statements_are_locked};

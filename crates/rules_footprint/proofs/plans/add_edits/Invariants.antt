@@ -1,4 +1,4 @@
-use Rattle.std.proofs.Common.{◌≡◌, ◌++◌, List, drop, map, take}
+use Rattle.std.proofs.Common.{◌≡◌, ◌++◌, List, map, take}
 use Rattle.std.specs.List.{AllByRecursion, flat_map}
 use Rattle.rules_outcome.specs.Decided.{change_of}
 use Rattle.rules_locks.specs.Locks.{change_claims}

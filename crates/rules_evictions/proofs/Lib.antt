@@ -1,0 +1,4 @@
+pub mod Sets
+pub mod Adds
+pub mod Hits
+pub mod Plans
