@@ -1,11 +1,12 @@
 // The keys that a statement's text names, and those that what stands there brings with it. No answer rests on which these
 // are: a key that is known and not needed changes nothing, and one that is needed and was not foreseen is told then.
 use dd_catalog::Object;
+use dd_definitions::ViewSource;
 use dd_names::{List, Name, ObjName, ObjectKey, Text, TryCopy, both};
 use rules_create::constraint_front;
 use sql_ast::{
-    CreateTable, Element, RenamePair, SchemaStatement, SessionState, Statement, TableBody,
-    TableStatement,
+    CreateTable, Element, RenamePair, SchemaStatement, SessionState, ShowStatement, Statement,
+    TableBody, TableStatement,
 };
 use sql_types::{FkWords, ObjRef};
 use std::alloc::{AllocError, Global};
@@ -18,6 +19,8 @@ pub(crate) enum Bringing {
     Children,
     /// These, and what stands at each.
     WholeChildren,
+    /// The sources of a view, and theirs.
+    Sources,
 }
 
 pub(crate) fn bringing_of(statement: &Statement) -> Bringing {
@@ -27,6 +30,7 @@ pub(crate) fn bringing_of(statement: &Statement) -> Bringing {
         Statement::Table(TableStatement::Rename { .. } | TableStatement::Truncate { .. }) => {
             Bringing::WholeChildren
         }
+        Statement::Show(ShowStatement::Columns { .. }) => Bringing::Sources,
         _ => Bringing::Nothing,
     }
 }
@@ -53,6 +57,20 @@ fn add_first_keys(
     match statement {
         Statement::Schema(SchemaStatement::Drop { name, .. }) => add_schema(name, keys),
         Statement::Table(statement) => add_of_table(alloc, session, statement, keys),
+        Statement::Show(statement) => add_shown(session, statement, keys),
+        _ => Ok(()),
+    }
+}
+
+// All schemas, where a table of INFORMATION_SCHEMA may list their objects.
+fn add_shown(
+    session: &SessionState,
+    statement: &ShowStatement,
+    keys: &mut List<ObjectKey>,
+) -> Result<(), AllocError> {
+    match statement {
+        ShowStatement::Columns { object } => add_named(&session.current, object, keys),
+        ShowStatement::Information { .. } => Ok(keys.push(ObjectKey::Schemas)?),
         _ => Ok(()),
     }
 }
@@ -236,15 +254,45 @@ pub(crate) fn add_brought(
     keys: &mut List<ObjectKey>,
 ) -> Result<(), AllocError> {
     match (key, object) {
+        (ObjectKey::Schemas, Object::Schemas(names)) => add_lists(names.as_slice(), keys),
         (ObjectKey::Objects(schema), Object::Objects(names)) => {
             add_objects(schema, names.as_slice(), keys)
         }
         (ObjectKey::Object(table), Object::Table { .. }) => add_children(bringing, table, keys),
+        (ObjectKey::Object(_), Object::View { def, .. }) => {
+            add_sources(bringing, def.parts().sources.as_slice(), keys)
+        }
         (ObjectKey::Children(_), Object::Children(tables)) => {
             add_whole(bringing, tables.as_slice(), keys)
         }
         _ => Ok(()),
     }
+}
+
+// The list of the objects of each schema.
+fn add_lists(schemas: &[Name], keys: &mut List<ObjectKey>) -> Result<(), AllocError> {
+    'schemas: for schema in schemas {
+        add_key(schema.copy().map(ObjectKey::Objects), keys)?;
+    }
+    Ok(())
+}
+
+fn add_sources(
+    bringing: Bringing,
+    sources: &[ViewSource],
+    keys: &mut List<ObjectKey>,
+) -> Result<(), AllocError> {
+    match bringing {
+        Bringing::Nothing | Bringing::Children | Bringing::WholeChildren => Ok(()),
+        Bringing::Sources => add_each_source(sources, keys),
+    }
+}
+
+fn add_each_source(sources: &[ViewSource], keys: &mut List<ObjectKey>) -> Result<(), AllocError> {
+    'sources: for source in sources {
+        add_object(&source.object.schema, &source.object.name, keys)?;
+    }
+    Ok(())
 }
 
 fn add_objects(
@@ -264,7 +312,7 @@ fn add_children(
     keys: &mut List<ObjectKey>,
 ) -> Result<(), AllocError> {
     match bringing {
-        Bringing::Nothing => Ok(()),
+        Bringing::Nothing | Bringing::Sources => Ok(()),
         Bringing::Children | Bringing::WholeChildren => {
             add_key(table.copy().map(ObjectKey::Children), keys)
         }
@@ -277,7 +325,7 @@ fn add_whole(
     keys: &mut List<ObjectKey>,
 ) -> Result<(), AllocError> {
     match bringing {
-        Bringing::Nothing | Bringing::Children => Ok(()),
+        Bringing::Nothing | Bringing::Children | Bringing::Sources => Ok(()),
         Bringing::WholeChildren => add_tables(tables, keys),
     }
 }

@@ -1,5 +1,5 @@
 -- Each statement keeps a valid catalog valid, and makes one tablespace at most.
-use Rattle.std.specs.Prelude.{◌≡◌, ℕ, Bool, true, false, ◌&&◌, List, Option, Some, None, refl}
+use Rattle.std.specs.Prelude.{◌≡◌, Bool, true, false, ◌&&◌, List, Option, Some, refl}
 use Rattle.std.specs.List.{list_all}
 use Rattle.std.specs.FinMap as finite_map
 use Rattle.std.proofs.Common.{subst, inl}
@@ -13,40 +13,26 @@ use Rattle.sql_ast.specs.declared.schema.SchemaStatement.{SchemaStatement}
 use Rattle.sql_ast.specs.declared.schema.SchemaStatement.TheVariants as schemas
 use Rattle.sql_ast.specs.declared.session.SessionStatement.{SessionStatement}
 use Rattle.sql_ast.specs.declared.session.SessionStatement.TheVariants as sessions
-use Rattle.sql_ast.specs.declared.show.ShowStatement.{ShowStatement}
-use Rattle.sql_ast.specs.declared.show.ShowStatement.TheVariants as shows
-use Rattle.sql_ast.specs.declared.show.ShownCreation.{ShownCreation}
-use Rattle.sql_ast.specs.declared.show.ShownCreation.TheVariants as creations
 use Rattle.sql_ast.specs.declared.table.TableBody.{TableBody}
 use Rattle.sql_ast.specs.declared.table.TableBody.TheVariants as bodies
 use Rattle.sql_ast.specs.declared.table.TableStatement.{TableStatement}
 use Rattle.sql_ast.specs.declared.table.TableStatement.TheVariants as tables
-use Rattle.dd_catalog.specs.Catalog.{Catalog}
 use Rattle.dd_catalog.specs.Walks.{Walk, refuse}
 use Rattle.rules_outcome.specs.Choices.{Choice}
-use Rattle.rules_schema.specs.Schemas.{create_database, drop_database}
-use Rattle.rules_schema.specs.Sessions.{use_schema, set_tries}
-use Rattle.rules_schema.specs.Listings.{show_databases, show_tables}
-use Rattle.rules_schema.specs.Drops.{drop_table}
-use Rattle.rules_create.specs.Tables.{create_table}
 use Rattle.rules_rename.specs.Renames.{rename}
 use Rattle.rules_valid.specs.Keeps.{KeepsValid, MakesOneSpace}
-use Rattle.rules_valid.proofs.Readings.{use_keeps, set_keeps, databases_keep, tables_keep}
+use Rattle.rules_valid.proofs.Readings.{use_keeps, set_keeps}
 use Rattle.rules_valid.proofs.Schemas.{create_keeps}
 use Rattle.rules_valid.proofs.Drops.{drop_database_keeps, drop_table_keeps}
 use Rattle.rules_valid.proofs.Emptied.{truncate_keeps, truncate_makes}
 use Rattle.rules_valid.proofs.Likes.{create_like_keeps, create_like_makes}
 use Rattle.rules_valid.proofs.Tables.{create_table_keeps}
-use Rattle.dd_names.specs.declared.object_name.ObjName.{ObjName}
 use Rattle.sql_types.specs.declared.words.ObjRef.{ObjRef}
-use Rattle.dd_catalog.specs.Sights.{Sight, TableThere, ViewThere}
-use Rattle.rules_named.specs.Named.{schema_there, one_named}
-use Rattle.rules_show.specs.Shows.{show_create_database, object_shown, view_shown, show_create_table, show_create_view}
-use Rattle.rules_decide.proofs.ShowsKept.{creation_keeps}
-use Rattle.rules_valid.proofs.Spaces.{Ends, ends_after, KeepsNone, makes_one, create_database_makes, drop_database_makes, use_makes, set_makes, databases_make, tables_make, drop_table_makes, create_table_makes}
+use Rattle.rules_decide.proofs.Listings.{listings_keep, listings_make, show_lists}
+use Rattle.rules_valid.proofs.Spaces.{create_database_makes, drop_database_makes, use_makes, set_makes, drop_table_makes, create_table_makes}
 use Rattle.rules_valid.proofs.RenamedSound.{HoldsSpace}
 use Rattle.rules_valid.proofs.RenamedAll.{rename_keeps, rename_keeps_spaces}
-use Rattle.rules_decide.specs.Outcome.{schema_outcome, body_outcome, table_outcome, creation_outcome, show_outcome, session_outcome, outcome}
+use Rattle.rules_decide.specs.Outcome.{schema_outcome, body_outcome, table_outcome, session_outcome, outcome}
 
 some_is : {A : Type 0} {x y : A} → ◌≡◌ {A = Option A} (Some x) (Some y) → x ≡ y
 some_is e = cc
@@ -83,12 +69,6 @@ table_kept session (tables.Rename pairs) check current said e = same_check (rena
 table_kept session (tables.Truncate table) check current said e = same_check (truncate_keeps session table) e
 table_kept session _ check current said e = cc
 
-show_kept : (session : SessionState) (statement : ShowStatement) (check : Walk ErrorValue Choice) → show_outcome session statement ≡ Some check → KeepsValid check
-show_kept session shows.Databases check e = same_check databases_keep e
-show_kept session (shows.Tables schema) check e = same_check (tables_keep session schema) e
-show_kept session (shows.Creation shown) check e = same_check (creation_keeps session shown) e
-show_kept session _ check e = cc
-
 session_kept : (session : SessionState) (statement : SessionStatement) → KeepsValid (session_outcome session statement)
 session_kept session (sessions.Use name) = use_keeps session name
 session_kept session (sessions.SetTries value) = set_keeps session value
@@ -97,7 +77,7 @@ pub outcome_kept : (session : SessionState) (statement : Statement) (check : Wal
 outcome_kept session (is.Schema statement) check said current e = same_check (schema_kept session statement said) e
 outcome_kept session (is.Table statement) check said current e = table_kept session statement check current said e
 outcome_kept session (is.View statement) check said current e = cc
-outcome_kept session (is.Show statement) check said current e = show_kept session statement check e
+outcome_kept session (is.Show statement) check said current e = same_check (listings_keep (show_lists session statement)) e
 outcome_kept session (is.Session statement) check said current e = same_check (session_kept session statement) e
 outcome_kept session (is.Bad error) check said current e = same_check (refusals_keep error) e
 
@@ -117,33 +97,6 @@ renames_make session pairs = record {
 refusals_make : (error : ErrorValue) → MakesOneSpace (refuse error)
 refusals_make error = record { made = λ cat space choice valid found name held parts has. cc }
 
-object_ends : (object : ObjName) (seen : Sight) → Ends KeepsNone (object_shown object seen)
-object_ends object (TableThere number parts) = tt
-object_ends object (ViewThere parts) = tt
-object_ends object _ = tt
-
-view_object_ends : (object : ObjName) (seen : Sight) → Ends KeepsNone (view_shown object seen)
-view_object_ends object (TableThere number parts) = tt
-view_object_ends object (ViewThere parts) = tt
-view_object_ends object _ = tt
-
-database_ends : (name : List ℕ) → Ends KeepsNone (show_create_database name)
-unfolding show_create_database
-database_ends name = ends_after KeepsNone (schema_there name) _ (λ _. tt)
-
-table_ends : (session : SessionState) (ref : ObjRef) → Ends KeepsNone (show_create_table session ref)
-unfolding show_create_table
-table_ends session ref = ends_after KeepsNone (one_named session.current ref) _ (λ object seen. object_ends object seen)
-
-view_ends : (session : SessionState) (ref : ObjRef) → Ends KeepsNone (show_create_view session ref)
-unfolding show_create_view
-view_ends session ref = ends_after KeepsNone (one_named session.current ref) _ (λ object seen. view_object_ends object seen)
-
-creation_makes : (session : SessionState) (shown : ShownCreation) → MakesOneSpace (creation_outcome session shown)
-creation_makes session (creations.Database name) = makes_one _ (database_ends name)
-creation_makes session (creations.Table object) = makes_one _ (table_ends session object)
-creation_makes session (creations.View object) = makes_one _ (view_ends session object)
-
 schema_makes_one : (session : SessionState) (statement : SchemaStatement) → MakesOneSpace (schema_outcome session statement)
 schema_makes_one session (schemas.Create if_not_exists name) = create_database_makes session if_not_exists name
 schema_makes_one session (schemas.Drop if_exists name) = drop_database_makes session if_exists name
@@ -159,12 +112,6 @@ table_makes_one session (tables.Rename pairs) check e = same_maker (renames_make
 table_makes_one session (tables.Truncate table) check e = same_maker (truncate_makes session table) e
 table_makes_one session _ check e = cc
 
-show_makes_one : (session : SessionState) (statement : ShowStatement) (check : Walk ErrorValue Choice) → show_outcome session statement ≡ Some check → MakesOneSpace check
-show_makes_one session shows.Databases check e = same_maker databases_make e
-show_makes_one session (shows.Tables schema) check e = same_maker (tables_make session schema) e
-show_makes_one session (shows.Creation shown) check e = same_maker (creation_makes session shown) e
-show_makes_one session _ check e = cc
-
 session_makes_one : (session : SessionState) (statement : SessionStatement) → MakesOneSpace (session_outcome session statement)
 session_makes_one session (sessions.Use name) = use_makes session name
 session_makes_one session (sessions.SetTries value) = set_makes session value
@@ -173,6 +120,6 @@ pub outcome_makes : (session : SessionState) (statement : Statement) (check : Wa
 outcome_makes session (is.Schema statement) check e = same_maker (schema_makes_one session statement) e
 outcome_makes session (is.Table statement) check e = table_makes_one session statement check e
 outcome_makes session (is.View statement) check e = cc
-outcome_makes session (is.Show statement) check e = show_makes_one session statement check e
+outcome_makes session (is.Show statement) check e = same_maker (listings_make (show_lists session statement)) e
 outcome_makes session (is.Session statement) check e = same_maker (session_makes_one session statement) e
 outcome_makes session (is.Bad error) check e = same_maker (refusals_make error) e

@@ -1,4 +1,4 @@
 pub mod Whole
-pub mod ShowsKept
+pub mod Listings
 pub mod Kept
 pub mod Named

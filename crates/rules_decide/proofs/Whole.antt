@@ -1,5 +1,5 @@
 -- Checks over a whole catalog.
-use Rattle.std.specs.Prelude.{◌≡◌, Some, List, [], ◌∷◌, Bool, true, is_some, refl}
+use Rattle.std.specs.Prelude.{◌≡◌, Some, List, [], ◌∷◌, true, is_some, refl}
 use Rattle.std.specs.List.{AllByRecursion}
 use Rattle.std.proofs.Common.{ap}
 use Rattle.dd_names.specs.declared.object_name.ObjectKey.{ObjectKey}
@@ -7,16 +7,14 @@ use Rattle.dd_errors.specs.Errors.{ErrorValue}
 use Rattle.sql_ast.specs.declared.session.SessionState.{SessionState}
 use Rattle.sql_ast.specs.declared.statement.Statement.{Statement}
 use Rattle.sql_ast.specs.declared.statement.Statement.TheVariants as is
-use Rattle.sql_ast.specs.declared.show.ShowStatement.{ShowStatement}
-use Rattle.sql_ast.specs.declared.show.ShowStatement.TheVariants as shows
 use Rattle.sql_ast.specs.declared.table.TableStatement.{TableStatement}
 use Rattle.sql_ast.specs.declared.table.TableStatement.TheVariants as tables
 use Rattle.dd_catalog.specs.Catalog.{Catalog, sight_of, all_of}
 use Rattle.dd_catalog.specs.Sights.{Sight}
 use Rattle.dd_catalog.specs.Walks.{Walk, done, refuse, ask, run, asked}
-use Rattle.dd_catalog.specs.WalkLaws.{Look, Extends, IsOf, IsSettled, run_agrees, run_more}
+use Rattle.dd_catalog.specs.WalkLaws.{Look, IsOf, IsSettled, run_agrees, run_more}
 use Rattle.rules_outcome.specs.Choices.{Choice}
-use Rattle.rules_decide.specs.Outcome.{table_outcome, show_outcome, outcome, is_table_decided, is_show_decided, is_decided}
+use Rattle.rules_decide.specs.Outcome.{table_outcome, outcome, is_table_decided, is_decided}
 
 -- no key of a whole catalog is unknown
 pub settled : (cat : Catalog) (check : Walk ErrorValue Choice) → IsSettled (run (all_of cat) check)
@@ -42,16 +40,10 @@ table_has_check session (tables.Rename pairs) e = refl
 table_has_check session (tables.Truncate table) e = refl
 table_has_check session _ e = cc
 
-show_has_check : (session : SessionState) (statement : ShowStatement) → is_show_decided statement ≡ true → is_some (show_outcome session statement) ≡ true
-show_has_check session shows.Databases e = refl
-show_has_check session (shows.Tables schema) e = refl
-show_has_check session (shows.Creation shown) e = refl
-show_has_check session _ e = cc
-
 pub decided_has_check : (session : SessionState) (statement : Statement) → is_decided statement ≡ true → is_some (outcome session statement) ≡ true
 decided_has_check session (is.Schema statement) e = refl
 decided_has_check session (is.Table statement) e = table_has_check session statement e
 decided_has_check session (is.View statement) e = cc
-decided_has_check session (is.Show statement) e = show_has_check session statement e
+decided_has_check session (is.Show statement) e = refl
 decided_has_check session (is.Session statement) e = refl
 decided_has_check session (is.Bad error) e = refl

@@ -13,7 +13,6 @@ use Rattle.sql_ast.specs.declared.show.ShownCreation.{ShownCreation}
 use Rattle.sql_ast.specs.declared.show.ShownCreation.TheVariants as creations
 use Rattle.sql_ast.specs.declared.statement.Statement.{Statement}
 use Rattle.sql_ast.specs.declared.statement.Statement.TheVariants as is
-use Rattle.sql_ast.specs.declared.table.CreateTable.{CreateTable}
 use Rattle.sql_ast.specs.declared.table.TableBody.{TableBody}
 use Rattle.sql_ast.specs.declared.table.TableBody.TheVariants as bodies
 use Rattle.sql_ast.specs.declared.table.TableStatement.{TableStatement}
@@ -33,6 +32,8 @@ use Rattle.rules_create.specs.Tables.{create_table}
 use Rattle.rules_tables.specs.Likes.{create_like}
 use Rattle.rules_tables.specs.Truncates.{truncate}
 use Rattle.rules_rename.specs.Renames.{rename}
+use Rattle.info_schema.specs.Listings.{information}
+use Rattle.rules_views.specs.Shows.{show_columns}
 use Rattle.rules_show.specs.Shows.{show_create_database, show_create_table, show_create_view}
 
 -- ---- each family
@@ -57,11 +58,12 @@ creation_outcome session (creations.Database name) = show_create_database name
 creation_outcome session (creations.Table object) = show_create_table session object
 creation_outcome session (creations.View object) = show_create_view session object
 
-abbrev pub show_outcome : SessionState → ShowStatement → Option (Walk ErrorValue Choice)
-show_outcome session shows.Databases = Some show_databases
-show_outcome session (shows.Tables schema) = Some (show_tables session schema)
-show_outcome session (shows.Creation shown) = Some (creation_outcome session shown)
-show_outcome session statement = None
+abbrev pub show_outcome : SessionState → ShowStatement → Walk ErrorValue Choice
+show_outcome session shows.Databases = show_databases
+show_outcome session (shows.Tables schema) = show_tables session schema
+show_outcome session (shows.Columns object) = show_columns session object
+show_outcome session (shows.Creation shown) = creation_outcome session shown
+show_outcome session (shows.Information table) = information table
 
 abbrev pub session_outcome : SessionState → SessionStatement → Walk ErrorValue Choice
 session_outcome session (sessions.Use name) = use_schema session name
@@ -74,7 +76,7 @@ abbrev pub outcome : SessionState → Statement → Option (Walk ErrorValue Choi
 outcome session (is.Schema statement) = Some (schema_outcome session statement)
 outcome session (is.Table statement) = table_outcome session statement
 outcome session (is.View statement) = None
-outcome session (is.Show statement) = show_outcome session statement
+outcome session (is.Show statement) = Some (show_outcome session statement)
 outcome session (is.Session statement) = Some (session_outcome session statement)
 outcome session (is.Bad error) = Some (refuse error)
 
@@ -87,18 +89,12 @@ is_table_decided (tables.Rename pairs) = true
 is_table_decided (tables.Truncate table) = true
 is_table_decided statement = false
 
-abbrev pub is_show_decided : ShowStatement → Bool
-is_show_decided shows.Databases = true
-is_show_decided (shows.Tables schema) = true
-is_show_decided (shows.Creation shown) = true
-is_show_decided statement = false
-
--- all but ALTER TABLE, the statements of indexes and views, SHOW COLUMNS and TABLE
+-- all but ALTER TABLE and the statements of indexes and views
 abbrev pub is_decided : Statement → Bool
 is_decided (is.Schema statement) = true
 is_decided (is.Table statement) = is_table_decided statement
 is_decided (is.View statement) = false
-is_decided (is.Show statement) = is_show_decided statement
+is_decided (is.Show statement) = true
 is_decided (is.Session statement) = true
 is_decided (is.Bad error) = true
 

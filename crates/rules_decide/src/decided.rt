@@ -1,17 +1,18 @@
 // Which statements are decided.
 ghost use Rattle.std.specs.Prelude.{◌≡◌};
-ghost use Rattle.rules_decide.specs.Outcome.{is_decided, is_show_decided, is_table_decided};
+ghost use Rattle.rules_decide.specs.Outcome.{is_decided, is_table_decided};
 
-use sql_ast::{ShowStatement, Statement, TableStatement};
+use sql_ast::{Statement, TableStatement};
 
-/// Whether a statement is decided: all are but ALTER TABLE, the statements of indexes and views, SHOW COLUMNS and TABLE.
+/// Whether a statement is decided: all are but ALTER TABLE and the statements of indexes and views.
 pub fn is_decided(statement: &Statement) -> bool
     ensures { result ≡ is_decided statement.now }
 {
     match statement {
-        Statement::Schema(_) | Statement::Session(_) | Statement::Bad(_) => true,
+        Statement::Schema(_) | Statement::Show(_) | Statement::Session(_) | Statement::Bad(_) => {
+            true
+        }
         Statement::Table(statement) => is_table_decided(statement),
-        Statement::Show(statement) => is_show_decided(statement),
         Statement::View(_) => false,
     }
 }
@@ -25,15 +26,5 @@ fn is_table_decided(statement: &TableStatement) -> bool
         | TableStatement::Rename { .. }
         | TableStatement::Truncate { .. } => true,
         TableStatement::Alter { .. } | TableStatement::Index(_) => false,
-    }
-}
-
-fn is_show_decided(statement: &ShowStatement) -> bool
-    ensures { result ≡ is_show_decided statement.now }
-{
-    match statement {
-        ShowStatement::Databases | ShowStatement::Tables { .. } | ShowStatement::Creation(_) =>
-            true,
-        ShowStatement::Columns { .. } | ShowStatement::Information { .. } => false,
     }
 }

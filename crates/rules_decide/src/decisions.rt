@@ -4,10 +4,11 @@ ghost use Rattle.std.specs.Option.{option_map};
 ghost use Rattle.dd_catalog.specs.Walks.{run};
 ghost use Rattle.dd_catalog.specs.Follow.{sights};
 ghost use Rattle.rules_outcome.specs.Decided.{AreBefore, Decides, HaveIds};
-ghost use Rattle.rules_decide.specs.Outcome.{DecidesIf, body_outcome, creation_outcome, is_decided, is_show_decided, is_table_decided, outcome, schema_outcome, session_outcome, show_outcome, table_outcome};
+ghost use Rattle.rules_decide.specs.Outcome.{DecidesIf, body_outcome, creation_outcome, is_decided, is_table_decided, outcome, schema_outcome, session_outcome, show_outcome, table_outcome};
 
 use dd_catalog::{Lookup, Stop};
 use dd_names::TryCopy;
+use info_schema::information;
 use rules_create::create_table;
 use rules_outcome::Decided;
 use rules_rename::rename;
@@ -16,6 +17,7 @@ use rules_schema::{
 };
 use rules_show::{show_create_database, show_create_table, show_create_view};
 use rules_tables::{create_like, truncate};
+use rules_views::show_columns;
 use sql_ast::{
     CreateTable, SchemaStatement, SessionState, SessionStatement, ShowStatement, ShownCreation,
     Statement, TableBody, TableStatement,
@@ -123,16 +125,16 @@ fn decide_show<L: Lookup>(
     statement: &ShowStatement,
     look: &L,
 ) -> Result<Decided, Stop>
-    requires { is_show_decided statement.now ≡ true }
-    ensures exact { DecidesIf result (option_map (run (sights (L.known look.now))) (show_outcome session.now statement.now)) }
+    ensures exact { Decides result (run (sights (L.known look.now)) (show_outcome session.now statement.now)) }
     ensures before { IfOk result (λ d. AreBefore (L.known look.now) d) }
     ensures ids { IfOk result (λ d. HaveIds (L.known look.now) d) }
 {
     match statement {
         ShowStatement::Databases => show_databases(alloc, look),
         ShowStatement::Tables { schema } => show_tables(alloc, session, schema, look),
+        ShowStatement::Columns { object } => show_columns(alloc, session, object, look),
         ShowStatement::Creation(shown) => decide_creation(alloc, session, shown, look),
-        _ => unreachable!(),
+        ShowStatement::Information { table } => information(alloc, table, look),
     }
 }
 

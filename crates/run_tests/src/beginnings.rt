@@ -27,7 +27,7 @@ struct Row {
 
 const DONE: [(u32, u16); 3] = [(8, 0), (64, 0), (512, 0)];
 
-const ROWS: [Row; 12] = [
+const ROWS: [Row; 13] = [
     Row {
         before: "",
         each: &[],
@@ -131,6 +131,14 @@ const ROWS: [Row; 12] = [
         before: "",
         each: &["CREATE TABLE t", " (i INT PRIMARY KEY);"],
         front: "DROP DATABASE d",
+        items: &[],
+        back: "",
+        sizes: DONE,
+    },
+    Row {
+        before: "",
+        each: &["CREATE TABLE t", " (i INT PRIMARY KEY);"],
+        front: "TABLE information_schema.columns",
         items: &[],
         back: "",
         sizes: DONE,

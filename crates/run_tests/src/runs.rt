@@ -5,8 +5,18 @@ use std::alloc::{AllocError, Global};
 use std::test::Fail;
 
 /// Inputs that are answered, with the output and how many statements they have.
-const ANSWERED: [(&str, &str, usize); 15] = [
+const ANSWERED: [(&str, &str, usize); 17] = [
     SHOWN,
+    (
+        "session a\nCREATE DATABASE d; USE d; CREATE TABLE t (i INT PRIMARY KEY, j CHAR(3) DEFAULT 'x'); SHOW COLUMNS FROM t;",
+        "-- session a\nOK\nOK\nOK\nField\tType\tNull\tKey\tDefault\tExtra\ni\tint\tNO\tPRI\tNULL\t\nj\tchar(3)\tYES\t\tx\t\n",
+        4,
+    ),
+    (
+        "session a\nCREATE DATABASE d; CREATE TABLE d.t (i INT); TABLE information_schema.tables; TABLE information_schema.nope;",
+        "-- session a\nOK\nOK\nTABLE_SCHEMA\tTABLE_NAME\tTABLE_TYPE\tENGINE\nd\tt\tBASE TABLE\tInnoDB\nERROR 1109 (42S02): Unknown table 'nope' in information_schema\n",
+        4,
+    ),
     (
         "session a\nCREATE DATABASE mysql;",
         "-- session a\nERROR 1007 (HY000): Can't create database 'mysql'; database exists\n",
@@ -69,7 +79,7 @@ const SHOWN: (&str, &str, usize) = (
 /// Inputs of which nothing is answered.
 const REFUSED: [(&str, Status); 11] = [
     (
-        "session a\nTABLE information_schema.tables;",
+        "session a\nDROP VIEW v;",
         Status::NotBuilt {
             session: 0,
             number: 0,

@@ -1,4 +1,4 @@
-ghost use Rattle.std.specs.Prelude.{◌≡◌, ◌++◌, OnOk};
+ghost use Rattle.std.specs.Prelude.{◌≡◌, ◌++◌, OnOk, IfOk};
 ghost use Rattle.show_text.specs.Columns.{size_text, sign_text, with_length, type_text, null_text, no_default, kept_default, default_text, column_text};
 
 use dd_definitions::ColumnDef;
@@ -16,6 +16,15 @@ pub fn push_column(alloc: Global, out: &mut Text, column: &ColumnDef) -> Result<
     push_type(alloc, out, column.kind)?;
     out.push_str(null_text(column.nullable))?;
     push_default(out, column.auto, column.nullable, &column.default)
+}
+
+/// The text of a type, as `varchar(20)`.
+pub fn column_type(alloc: Global, kind: ColumnType) -> Result<Text, AllocError>
+    ensures { IfOk result (λ text. text ≡ type_text kind) }
+{
+    let mut out = Text::of(alloc, "")?;
+    push_type(alloc, &mut out, kind)?;
+    Ok(out)
 }
 
 fn push_type(alloc: Global, out: &mut Text, kind: ColumnType) -> Result<(), AllocError>

@@ -167,7 +167,8 @@ fn is_no_action(rule: FkRule) -> bool
     }
 }
 
-fn rule_name(rule: FkRule) -> &'static str
+/// The words of a rule, as `ON DELETE` has them.
+pub fn rule_name(rule: FkRule) -> &'static str
     ensures { result.now ≡ rule_name rule }
 {
     match rule {

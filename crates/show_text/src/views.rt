@@ -23,6 +23,15 @@ pub fn show_view(alloc: Global, view: &ViewDef) -> Result<Text, AllocError>
     Ok(out)
 }
 
+/// The query of a view, from `select` on, as SHOW CREATE VIEW has it.
+pub fn view_query(alloc: Global, view: &ViewDef) -> Result<Text, AllocError>
+    ensures { IfOk result (λ text. text ≡ query_text view.now) }
+{
+    let mut out = Text::of(alloc, "")?;
+    push_query(&mut out, view.parts())?;
+    Ok(out)
+}
+
 fn push_query(out: &mut Text, parts: &ViewParts) -> Result<(), AllocError>
     ensures { OnOk result (out.new ≡ out.old ++ query_text parts.now) }
 {

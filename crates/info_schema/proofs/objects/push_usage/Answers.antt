@@ -1,0 +1,15 @@
+use Rattle.std.proofs.Common.{◌<◌, ◌≤◌, ◌++◌, ◌∙◌, ap, length, arith}
+use Rattle.info_schema.specs.Tables.{rows_from, usage_row}
+use Rattle.info_schema.proofs.Rows.{row_pushed, rows_end}
+use Rattle.info_schema.proofs.objects.push_usage.Goals as goal
+
+pub places-preserved : goal.places-preserved
+places-preserved c =
+    let lt : c.places.place < length c.as_slice-columns.result.now = omega arith in
+    row_pushed (usage_row c.args.name.now c.args.key.now) c.as_slice-columns.result.now c.places.place c.index-columns-place.result c.usage_cells.new.row c.places.rows _ c.args.rows.now lt c.index-columns-place.is (c.in_ok-usage_cells.ensures ∙ ap (λ front. front ++ usage_row c.args.name.now c.args.key.now c.places.place c.index-columns-place.result) c.new-row.ensures) c.in_ok-push.ensures.ok c.places.invariant
+
+pub returns : goal.returns
+returns c =
+    let le : length c.as_slice-columns.result.now ≤ c.places.place = omega arith in
+    rows_end (usage_row c.args.name.now c.args.key.now) c.as_slice-columns.result.now c.places.place c.places.rows c.args.rows.now le c.places.invariant
+    ∙ ap (λ columns. c.args.rows.now ++ rows_from (usage_row c.args.name.now c.args.key.now) 0 columns) c.as_slice-columns.ensures
